@@ -1,0 +1,10 @@
+pub mod Bitwise
+pub mod Joined
+pub mod Rounds
+pub mod Keys
+pub mod Turns
+pub mod States
+pub mod Walk
+pub mod Exact
+pub mod Feeding
+pub mod Pieces

@@ -1,0 +1,10 @@
+use mathlib.Core.Path.{_≡_, sym, ap, _∙_}
+use native.Mathlib.Omega.{arith}
+use Rattle.tinyjambu.specs.Bytes.{number}
+use Rattle.tinyjambu.proofs.Joined.{four-at}
+use Rattle.tinyjambu.proofs.little_endian.load.Needs as need
+
+pub returns : need.returns
+returns c =
+    let e = ap number (four-at (c .args .bytes .now) (c .args .at) (c .pre)) in
+    omega (arith, e, c .from-le-bytes .ensures)

@@ -1,0 +1,26 @@
+ghost use mathlib.Core.Path.{_≡_};
+ghost use Rattle.tinyjambu.specs.Refusals.{outside};
+use crate::refusal::Refusal;
+use crate::refusal::RefusalDebug;
+use crate::refusal::RefusalPartialEq;
+
+// A refusal, and where it came from: the floor and the entry number of the roll that was called, 0 and 0 outside rolls.
+#[derive(Clone, Copy, PartialEq, Eq, Debug)]
+pub struct Fault {
+    pub refusal: Refusal,
+    pub floor: u32,
+    pub entry: u32,
+}
+
+impl Fault {
+    // The fault of a call outside rolls.
+    pub fn outside(refusal: Refusal) -> Fault
+        ensures { λ r. ⌜ r ≡ outside refusal ⌝ }
+    {
+        Fault {
+            refusal,
+            floor: 0,
+            entry: 0,
+        }
+    }
+}

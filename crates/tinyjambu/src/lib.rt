@@ -1,0 +1,17 @@
+mod bit_engine;
+mod direction;
+mod duplex;
+mod engine;
+mod fault;
+mod key;
+mod little_endian;
+mod phase;
+mod refusal;
+mod state;
+mod word_engine;
+pub use bit_engine::BitEngine;
+pub use engine::Engine;
+pub use fault::Fault;
+pub use key::Key;
+pub use refusal::Refusal;
+pub use word_engine::WordEngine;

@@ -1,0 +1,6 @@
+// What a byte that goes into the state belongs to.
+#[derive(Clone, Copy)]
+pub enum Phase {
+    Data,
+    Text,
+}
