@@ -61,10 +61,10 @@ module _ (key : List ℕ) where
   pub opened-state : (s : ℕ) (t : List ℕ) → plain-state key s (blocks (ciphertext key s (blocks t))) ≡ text-state key s (blocks t)
   opened-state s t = rw (ciphertext-is, plain-state-is, text-state-is) (state-back key-stream seal-step open-step open-seal s t)
 
-same-decides : (xs ys : List ℕ) → Decides (same xs ys) (xs ≡ ys)
+pub same-decides : (xs ys : List ℕ) → Decides (same xs ys) (xs ≡ ys)
 same-decides = compares-decides same (search needs)
 
-some-if : {A : Type 0} (b : Bool) (x t : A) → cond b (Some x) None ≡ Some t → (b ≡ true) × (x ≡ t)
+pub some-if : {A : Type 0} (b : Bool) (x t : A) → cond b (Some x) None ≡ Some t → (b ≡ true) × (x ≡ t)
 some-if true x t e = (refl, cc)
 some-if false x t e = grind arith
 

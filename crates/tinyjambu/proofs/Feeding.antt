@@ -2,7 +2,7 @@
 use Prim.Native.Nat.{ℕ, zero, suc, _+_, _*_, _/_, _%_, _^_, _<_, _≤_}
 use mathlib.Core.Path.{_≡_, refl, sym, ap, ap₂, _∙_}
 use mathlib.Core.List.{List, [], _∷_, _++_}
-use native.Mathlib.Nat.{mod-eq-of-lt, zero-mul, zero-mod, add-mul, mul-assoc, mul-comm, mul-mod-left}
+use native.Mathlib.Nat.{zero-add, add-mul, mul-assoc, mul-comm, mul-mod-left}
 use native.Mathlib.Omega.{arith}
 use lib.Bits.{bitXor, xor-assoc, xor-comm, xor-zero-r, xor-shifted, xor-shr, xor-mod}
 use lib.ListN.{length}
@@ -46,6 +46,14 @@ module _ (run : ℕ → ℕ) where
       ap (λ r. sealed-byte run k s x ∷ r)
       (sealed-append xs ys ((k + 1) % 4) (fed-byte run k s x) (omega arith)
       ∙ ap (λ j. sealed-bytes run ((k + 1) % 4) (fed-byte run k s x) xs ++ sealed-bytes run j (fed run ((k + 1) % 4) (fed-byte run k s x) xs) ys) (omega arith))
+
+  -- a piece after what came before it, from the start of a phase
+  pub fed-after : (xs ys : List ℕ) (s : ℕ) → fed run (length xs % 4) (fed run 0 s xs) ys ≡ fed run 0 s (xs ++ ys)
+  fed-after xs ys s = ap (λ n. fed run (n % 4) (fed run 0 s xs) ys) (sym (zero-add (length xs))) ∙ sym (fed-append xs ys 0 s (omega arith))
+
+  pub sealed-after : (xs ys : List ℕ) (s : ℕ)
+      → sealed-bytes run 0 s (xs ++ ys) ≡ sealed-bytes run 0 s xs ++ sealed-bytes run (length xs % 4) (fed run 0 s xs) ys
+  sealed-after xs ys s = sealed-append xs ys 0 s (omega arith) ∙ ap (λ n. sealed-bytes run 0 s xs ++ sealed-bytes run (n % 4) (fed run 0 s xs) ys) (zero-add (length xs))
 
   pub length-sealed : (xs : List ℕ) (k s : ℕ) → length (sealed-bytes run k s xs) ≡ length xs
   length-sealed [] k s = refl

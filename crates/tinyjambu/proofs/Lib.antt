@@ -6,5 +6,12 @@ pub mod Turns
 pub mod States
 pub mod Walk
 pub mod Exact
+pub mod Sealing
+pub mod Tags
+pub mod Opening
 pub mod Feeding
-pub mod Pieces
+pub mod Steps
+pub mod Blocks
+pub mod Buffers
+pub mod Histories
+pub mod Messages

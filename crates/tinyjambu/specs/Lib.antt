@@ -6,3 +6,7 @@ pub mod Keys
 pub mod Turns
 pub mod Duplex
 pub mod Laws
+pub mod History
+pub mod Answers
+pub mod Session
+pub mod Message

@@ -1,11 +1,12 @@
 ghost use mathlib.Core.Path.{_≡_};
-ghost use mathlib.Core.List.{[], _∷_};
-ghost use Prim.Native.Nat.{_+_, _*_, _/_, _%_, _^_, _<_};
+ghost use mathlib.Core.List.{List, [], _++_};
+ghost use Prim.Native.Nat.{ℕ, _+_, _*_, _/_, _%_, _^_, _<_};
 ghost use lib.Bits.{bitXor};
 ghost use lib.ListN.{length};
 ghost use Rattle.tinyjambu.specs.Bytes.{joined, bytes, word-bytes};
-ghost use Rattle.tinyjambu.specs.Mode.{stream, begun, nonce-word, data-run, text-run, tag};
-ghost use Rattle.tinyjambu.specs.Duplex.{phase-run, entered, fed-byte, sealed-byte, fed, sealed-bytes, closed, text-of, sealed-of};
+ghost use Rattle.tinyjambu.specs.Mode.{stream, nonce-word, data-run, text-run, tag};
+ghost use Rattle.tinyjambu.specs.Duplex.{phase-run, entered, fed-byte, sealed-byte, closed, text-of, sealed-of};
+ghost use Rattle.tinyjambu.specs.History.{Took-data, Took-text, sealed-piece, sealed-tag};
 use crate::direction::Direction;
 use crate::engine::Engine;
 use crate::little_endian::load;
@@ -34,10 +35,9 @@ fn nonce_step<E: Engine>(engine: &mut E, state: State, word: u32) -> State
 }
 
 impl Duplex {
-    // The state after the key and the nonce.
+    // Takes the key and the nonce.
     pub fn begin<E: Engine>(engine: &mut E, nonce: [u32; 3]) -> Duplex
-        ensures state { λ r. ⌜ joined (r .state) ≡ begun (E·Engine .key (now (engine .entry))) (word-bytes nonce) ⌝ }
-        ensures filled { λ r. ⌜ r .filled ≡ 0 ⌝ }
+        ensures took { λ r. ⌜ Took-data (E·Engine .key (now (engine .entry))) (word-bytes nonce) [] (joined (r .state)) (r .filled) ⌝ }
         ensures same { λ _. ⌜ E·Engine .key (now (engine .exit)) ≡ E·Engine .key (now (engine .entry)) ⌝ }
     {
         let [first, second, third] = nonce;
@@ -79,7 +79,7 @@ impl Duplex {
     }
 
     // Ends a phase: marks the length of a block that is not full.
-    pub fn close(&mut self)
+    fn close(&mut self)
         ensures state { λ _. ⌜ joined (now (self .exit) .state) ≡ closed (now (self .entry) .filled) (joined (now (self .entry) .state)) ⌝ }
         ensures filled { λ _. ⌜ now (self .exit) .filled ≡ 0 ⌝ }
     {
@@ -111,8 +111,7 @@ impl Duplex {
 
     // Takes a piece of associated data.
     pub fn absorb<E: Engine>(&mut self, engine: &mut E, piece: &[u8])
-        ensures state { λ _. ⌜ joined (now (self .exit) .state) ≡ fed (data-run (E·Engine .key (now (engine .entry)))) (now (self .entry) .filled) (joined (now (self .entry) .state)) (now (piece .entry)) ⌝ }
-        ensures filled { λ _. ⌜ now (self .exit) .filled ≡ (now (self .entry) .filled + length (now (piece .entry))) % 4 ⌝ }
+        ensures took { λ _. ⌜ ((nonce ad : List ℕ) → Took-data (E·Engine .key (now (engine .entry))) nonce ad (joined (now (self .entry) .state)) (now (self .entry) .filled) → Took-data (E·Engine .key (now (engine .entry))) nonce (ad ++ now (piece .entry)) (joined (now (self .exit) .state)) (now (self .exit) .filled)) ⌝ }
         ensures same { λ _. ⌜ E·Engine .key (now (engine .exit)) ≡ E·Engine .key (now (engine .entry)) ⌝ }
     {
         let mut at = 0;
@@ -125,6 +124,13 @@ impl Duplex {
                 at += 1;
             }
         }
+    }
+
+    // Ends the associated data.
+    pub fn end_data(&mut self)
+        ensures took { λ _. ⌜ ((key nonce ad : List ℕ) → Took-data key nonce ad (joined (now (self .entry) .state)) (now (self .entry) .filled) → Took-text key nonce ad [] (joined (now (self .exit) .state)) (now (self .exit) .filled)) ⌝ }
+    {
+        self.close();
     }
 
     // Takes one byte of the text, or of the sealed text, and gives back the other.
@@ -157,9 +163,9 @@ impl Duplex {
     // Takes a piece of the text, or of the sealed text, and writes the other.
     pub fn crypt<E: Engine>(&mut self, engine: &mut E, direction: Direction, input: &[u8], out: &mut [u8])
         requires { ⌜ length (now out) ≡ length (now input) ⌝ }
-        ensures out { λ _. ⌜ sealed-of direction (now (input .entry)) (now (out .exit)) ≡ sealed-bytes (text-run (E·Engine .key (now (engine .entry)))) (now (self .entry) .filled) (joined (now (self .entry) .state)) (text-of direction (now (input .entry)) (now (out .exit))) ⌝ }
-        ensures state { λ _. ⌜ joined (now (self .exit) .state) ≡ fed (text-run (E·Engine .key (now (engine .entry)))) (now (self .entry) .filled) (joined (now (self .entry) .state)) (text-of direction (now (input .entry)) (now (out .exit))) ⌝ }
-        ensures filled { λ _. ⌜ now (self .exit) .filled ≡ (now (self .entry) .filled + length (now (input .entry))) % 4 ⌝ }
+        ensures took { λ _. ⌜ ((nonce ad t : List ℕ) → Took-text (E·Engine .key (now (engine .entry))) nonce ad t (joined (now (self .entry) .state)) (now (self .entry) .filled) → Took-text (E·Engine .key (now (engine .entry))) nonce ad (t ++ text-of direction (now (input .entry)) (now (out .exit))) (joined (now (self .exit) .state)) (now (self .exit) .filled)) ⌝ }
+        ensures out { λ _. ⌜ ((nonce ad t : List ℕ) → Took-text (E·Engine .key (now (engine .entry))) nonce ad t (joined (now (self .entry) .state)) (now (self .entry) .filled) → sealed-of direction (now (input .entry)) (now (out .exit)) ≡ sealed-piece (E·Engine .key (now (engine .entry))) nonce ad t (text-of direction (now (input .entry)) (now (out .exit)))) ⌝ }
+        ensures len { λ _. ⌜ length (now (out .exit)) ≡ length (now (input .entry)) ⌝ }
         ensures same { λ _. ⌜ E·Engine .key (now (engine .exit)) ≡ E·Engine .key (now (engine .entry)) ⌝ }
     {
         let mut at = 0;
@@ -175,8 +181,8 @@ impl Duplex {
         }
     }
 
-    // The tag, once the text is closed.
-    pub fn tag<E: Engine>(&self, engine: &mut E) -> [u8; 8]
+    // The two words of the tag, once the text is closed.
+    fn tag_words<E: Engine>(&self, engine: &mut E) -> [u8; 8]
         ensures result { λ r. ⌜ r ≡ tag (E·Engine .key (now (engine .entry))) (joined (now (self .entry) .state)) ⌝ }
         ensures same { λ _. ⌜ E·Engine .key (now (engine .exit)) ≡ E·Engine .key (now (engine .entry)) ⌝ }
     {
@@ -185,5 +191,14 @@ impl Duplex {
         let [a, b, c, d] = stream_word(middle).to_le_bytes();
         let [e, f, g, h] = stream_word(end).to_le_bytes();
         [a, b, c, d, e, f, g, h]
+    }
+
+    // Ends the text, and gives the tag.
+    pub fn tag<E: Engine>(&mut self, engine: &mut E) -> [u8; 8]
+        ensures result { λ r. ⌜ ((nonce ad t : List ℕ) → Took-text (E·Engine .key (now (engine .entry))) nonce ad t (joined (now (self .entry) .state)) (now (self .entry) .filled) → r ≡ sealed-tag (E·Engine .key (now (engine .entry))) nonce ad t) ⌝ }
+        ensures same { λ _. ⌜ E·Engine .key (now (engine .exit)) ≡ E·Engine .key (now (engine .entry)) ⌝ }
+    {
+        self.close();
+        self.tag_words(engine)
     }
 }

@@ -3,6 +3,7 @@ ghost use Rattle.tinyjambu.specs.Refusals.{outside};
 use crate::refusal::Refusal;
 use crate::refusal::RefusalDebug;
 use crate::refusal::RefusalPartialEq;
+use std::fmt;
 
 // A refusal, and where it came from: the floor and the entry number of the roll that was called, 0 and 0 outside rolls.
 #[derive(Clone, Copy, PartialEq, Eq, Debug)]
@@ -22,5 +23,15 @@ impl Fault {
             floor: 0,
             entry: 0,
         }
+    }
+}
+
+pub impl fmt::Display for Fault as FaultDisplay {
+    fn fmt<W: fmt::Write>(&self, f: &mut fmt::Formatter<W>) -> fmt::Result {
+        let number = self.refusal.number();
+        let words = self.refusal.words();
+        let floor = self.floor;
+        let entry = self.entry;
+        write!(f, "refusal {number}: {words} (floor {floor}, entry {entry})")
     }
 }

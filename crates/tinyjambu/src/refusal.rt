@@ -27,4 +27,23 @@ impl Refusal {
     {
         self as u8
     }
+
+    // The refusal in words.
+    pub fn words(self) -> &'static str {
+        match self {
+            Refusal::KeyLength => "the key is not 16, 24 or 32 bytes",
+            Refusal::NonceLength => "the nonce is not 12 bytes",
+            Refusal::DataTooLong => "the associated data passes 65536 bytes",
+            Refusal::TextTooLong => "the text passes 65536 bytes",
+            Refusal::SealedTooShort => "the sealed bytes are fewer than 8",
+            Refusal::TapeLength => "the tape is shorter than 16 or longer than 65536 bytes",
+            Refusal::TapeDisorder => "the tape is not in order",
+            Refusal::NoEntry => "no entry has the number",
+            Refusal::EntryTooLong => "the entry is not shorter than the bound",
+            Refusal::RollFull => "the roll has 4095 entries",
+            Refusal::NoSpace => "the charge of the entry is more than the space",
+            Refusal::OutTooShort => "the out buffer is too short",
+            Refusal::Broken => "no text seals to the bytes",
+        }
+    }
 }

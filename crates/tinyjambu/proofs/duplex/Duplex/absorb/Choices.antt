@@ -3,7 +3,7 @@ use mathlib.Core.Path.{_≡_}
 use lib.ListN.{length}
 use Rattle.tinyjambu.specs.Bytes.{joined}
 use Rattle.tinyjambu.specs.Mode.{data-run}
-use Rattle.tinyjambu.proofs.Pieces.{Fed}
+use Rattle.tinyjambu.proofs.Steps.{Fed}
 use Rattle.tinyjambu.proofs.duplex.Duplex.absorb.Given as given
 
 abbrev pub Inv-loop-at : given.InvT-loop-at

@@ -1,13 +1,14 @@
 use mathlib.Core.Path.{_≡_, refl, sym, ap, ap₂, _∙_}
-use Prim.Native.Nat.{_+_, _*_, _≤_, _^_}
+use Prim.Native.Nat.{_+_, _*_, _%_, _≤_, _^_}
 use native.Mathlib.Omega.{arith}
 use lib.Bits.{bitXor}
 use lib.ListN.{length, getD}
 use Rattle.tinyjambu.specs.Bytes.{joined}
 use Rattle.tinyjambu.specs.Mode.{text-run, stream}
 use Rattle.tinyjambu.specs.Duplex.{fed-byte, sealed-byte, text-of, sealed-of}
+use Rattle.tinyjambu.proofs.Histories.{text-more, sealed-part}
 use Rattle.tinyjambu.proofs.Joined.{all-bytes}
-use Rattle.tinyjambu.proofs.Pieces.{crypted-none, crypted-all, crypted-byte-more, crypted-word-more}
+use Rattle.tinyjambu.proofs.Steps.{either-length, either-small, crypted-none, crypted-all, crypted-byte-more, crypted-word-more}
 use Rattle.tinyjambu.proofs.duplex.Duplex.crypt.Needs as need
 
 pub loop-at-holds : need.loop-at-holds
@@ -35,7 +36,7 @@ loop-at-again g c =
     let same = c .loop-at .inv .1 in
     let r = c .crypt-byte .result in
     let x = getD (c .args .input .now) (c .loop-at .at) 0 in
-    (crypted-byte-more (c .loop-at .inv .0) r _ _ (c .loop-at-test .taken)
+    (crypted-byte-more (c .loop-at .inv .0) r _ _ (c .loop-at-test .taken) (c .crypt-byte .ok)
     (e .state ∙ ap (λ k. fed-byte (text-run k) (d .filled) (joined (d .state)) (text-of (c .args .direction) x r)) same) (e .filled)
     (e .result ∙ ap (λ k. sealed-byte (text-run k) (d .filled) (joined (d .state)) (text-of (c .args .direction) x r)) same),
     e .same ∙ same)
@@ -43,4 +44,13 @@ loop-at-again g c =
 pub returns : need.returns
 returns g c =
     let all = crypted-all (c .loop-at .inv .0) (c .loop-at-test .left) in
-    record { out = all .0; state = all .1; filled = all .2; same = c .loop-at .inv .1 }
+    let key = g .E·Engine .key (c .args .engine .now) in
+    let text = text-of (c .args .direction) (c .args .input .now) (c .loop-at .out) in
+    let n : length text ≡ length (c .args .input .now) = either-length (c .args .direction) (c .args .input .now) (c .loop-at .out) (c .loop-at .inv .0 .long) in
+    let small = either-small (c .args .direction) (c .args .input .now) (c .loop-at .out) (all-bytes (c .args .input .now) (c .typed .input)) (all .3) in
+    record {
+      took = λ nonce ad t h. text-more key nonce ad t text _ _ _ _ h small (all .1) (all .2 ∙ ap (λ x. (c .args .self .now .filled + x) % 4) (sym n));
+      out = λ nonce ad t h. all .0 ∙ sealed-part key nonce ad t text _ _ h small;
+      len = c .loop-at .inv .0 .long;
+      same = c .loop-at .inv .1
+    }

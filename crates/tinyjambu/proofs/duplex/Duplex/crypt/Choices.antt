@@ -3,7 +3,7 @@ use mathlib.Core.Path.{_≡_}
 use lib.ListN.{length}
 use Rattle.tinyjambu.specs.Bytes.{joined}
 use Rattle.tinyjambu.specs.Mode.{text-run}
-use Rattle.tinyjambu.proofs.Pieces.{Crypted}
+use Rattle.tinyjambu.proofs.Steps.{Crypted}
 use Rattle.tinyjambu.proofs.duplex.Duplex.crypt.Given as given
 
 abbrev pub Inv-loop-at : given.InvT-loop-at

@@ -6,7 +6,7 @@ use native.Mathlib.Omega.{arith}
 use lib.Bits.{bitXor, xor-mod, xor-shr}
 use lib.ListN.{length, getD, set, take, drop, length-drop, length-set, length-append}
 use lib.Seq.{take-add}
-use Rattle.std.proofs.shelf.Elements.{all-take, all-drop}
+use Rattle.std.proofs.shelf.Elements.{all-take, all-drop, all-append}
 use Rattle.std.proofs.shelf.Lists.{take-more, take-more-set, take-all, take-at, length-take-le}
 use Rattle.tinyjambu.specs.Bytes.{number, bytes, All-bytes}
 use Rattle.tinyjambu.specs.Mode.{stream, xored}
@@ -69,6 +69,7 @@ pub record Crypted (run : ℕ → ℕ) (k s at : ℕ) (d : Direction) (input out
   pub place : filled ≡ (k + at) % 4
   pub made : take at (sealed-of d input out) ≡ sealed-bytes run k s (take at (text-of d input out))
   pub long : length out ≡ length input
+  pub small : All-bytes (take at out)
 
 -- a part more of input and output is a part more of text and sealed text
 either-more : (d : Direction) (input out next part other : List ℕ) (at n : ℕ) → take (at + n) input ≡ take at input ++ part → take (at + n) next ≡ take at out ++ other
@@ -77,9 +78,13 @@ either-more : (d : Direction) (input out next part other : List ℕ) (at n : ℕ
 either-more Sealing input out next part other at n p q = (p, q)
 either-more Opening input out next part other at n p q = (q, p)
 
-either-length : (d : Direction) (input out : List ℕ) → length out ≡ length input → length (text-of d input out) ≡ length input
+pub either-length : (d : Direction) (input out : List ℕ) → length out ≡ length input → length (text-of d input out) ≡ length input
 either-length Sealing input out e = refl
 either-length Opening input out e = e
+
+pub either-small : (d : Direction) (input out : List ℕ) → All-bytes input → All-bytes out → All-bytes (text-of d input out)
+either-small Sealing input out i o = i
+either-small Opening input out i o = o
 
 other-length : (d : Direction) (input out : List ℕ) → length out ≡ length input → length (sealed-of d input out) ≡ length input
 other-length Sealing input out e = e
@@ -124,11 +129,11 @@ word-block Opening part r n small h = record {
 module _ {run : ℕ → ℕ} {k s at : ℕ} {d : Direction} {input out : List ℕ} {state filled : ℕ} (h : Crypted run k s at d input out state filled) where
   -- n bytes more
   crypted-more : (part other next : List ℕ) (n after place : ℕ) → at + n ≤ length input → take (at + n) input ≡ take at input ++ part → take (at + n) next ≡ take at out ++ other
-      → length next ≡ length input
+      → length next ≡ length input → All-bytes other
       → after ≡ fed run filled state (text-of d part other) → place ≡ (filled + n) % 4
       → sealed-of d part other ≡ sealed-bytes run filled state (text-of d part other)
       → Crypted run k s (at + n) d input next after place
-  crypted-more part other next n after place l p q long a b made =
+  crypted-more part other next n after place l p q long small a b made =
       let within : at ≤ length input = h .within in
       let few : k < 4 = h .few in
       let here : filled ≡ (k + at) % 4 = h .place in
@@ -143,17 +148,18 @@ module _ {run : ℕ → ℕ} {k s at : ℕ} {d : Direction} {input out : List �
         is = a ∙ ap₂ (λ x y. fed run x y (text-of d part other)) f (h .is) ∙ sym (ap (fed run k s) (both .0) ∙ fed-append run text (text-of d part other) k s few);
         place = omega arith;
         made = both .1 ∙ ap₂ _++_ (h .made) (made ∙ ap₂ (λ x y. sealed-bytes run x y (text-of d part other)) f (h .is)) ∙ sym (ap (sealed-bytes run k s) (both .0) ∙ sealed-append run text (text-of d part other) k s few);
-        long = long
+        long = long;
+        small = rw q (all-append (λ b. b < 256) (take at out) other (h .small) small)
       }
 
-  pub crypted-byte-more : (r after place : ℕ) → at < length input → after ≡ fed-byte run filled state (text-of d (getD input at 0) r) → place ≡ (filled + 1) % 4
+  pub crypted-byte-more : (r after place : ℕ) → at < length input → r < 256 → after ≡ fed-byte run filled state (text-of d (getD input at 0) r) → place ≡ (filled + 1) % 4
       → sealed-of d (getD input at 0) r ≡ sealed-byte run filled state (text-of d (getD input at 0) r)
       → Crypted run k s (at + 1) d input (set out at r) after place
-  crypted-byte-more r after place l a b made =
+  crypted-byte-more r after place l small a b made =
       let long : length out ≡ length input = h .long in
       let x = getD input at 0 in
       let one = single d x r in
-      crypted-more (x ∷ []) (r ∷ []) (set out at r) 1 after place (omega arith) (take-more input at 0 l) (take-more-set out at r (omega arith)) (length-set out at r ∙ long)
+      crypted-more (x ∷ []) (r ∷ []) (set out at r) 1 after place (omega arith) (take-more input at 0 l) (take-more-set out at r (omega arith)) (length-set out at r ∙ long) (small, tt)
       (a ∙ ap (fed run filled state) (sym (one .0))) b (one .1 ∙ ap (λ y. y ∷ []) made ∙ ap (sealed-bytes run filled state) (sym (one .0)))
 
   pub crypted-word-more : (r after place : ℕ) (next : List ℕ) → All-bytes input → at + 4 ≤ length input → r < 2 ^ 32 → filled ≡ 0 → next ≡ take at out ++ (bytes 4 r ++ drop (at + 4) out)
@@ -170,17 +176,17 @@ module _ {run : ℕ → ℕ} {k s at : ℕ} {d : Direction} {input out : List �
       let m : length (take at out ++ bytes 4 r) ≡ at + 4 = length-append (take at out) (bytes 4 r) ∙ ap (λ x. x + 4) (length-take-le at out (omega arith)) in
       let q : take (at + 4) next ≡ take at out ++ bytes 4 r = ap (take (at + 4)) (e ∙ sym (append-assoc (take at out) (bytes 4 r) (drop (at + 4) out))) ∙ take-at (take at out ++ bytes 4 r) (drop (at + 4) out) (at + 4) m in
       let g : length next ≡ length input = ap length (e ∙ sym (append-assoc (take at out) (bytes 4 r) (drop (at + 4) out))) ∙ length-append (take at out ++ bytes 4 r) (drop (at + 4) out) ∙ ap₂ _+_ m (length-drop (at + 4) out) ∙ omega arith in
-      crypted-more part (bytes 4 r) next 4 after place l (take-add at 4 input) q g
+      crypted-more part (bytes 4 r) next 4 after place l (take-add at 4 input) q g (all-bytes-of 4 r)
       (a ∙ ap (λ x. bitXor (run state) (x * 2 ^ 96)) (sym (block .text)) ∙ sym f ∙ ap (λ x. fed run x state text) (sym z))
       (omega arith)
       (block .sealed (stream (run state)) made ∙ sym (sealed-block run text state (omega arith) (omega arith)) ∙ ap (λ x. sealed-bytes run x state text) (sym z))
 
 -- nothing yet, and all of it
 pub crypted-none : (run : ℕ → ℕ) (k s : ℕ) (d : Direction) (input out : List ℕ) → k < 4 → length out ≡ length input → Crypted run k s 0 d input out s k
-crypted-none run k s d input out h e = record { within = omega arith; few = h; is = refl; place = omega arith; made = refl; long = e }
+crypted-none run k s d input out h e = record { within = omega arith; few = h; is = refl; place = omega arith; made = refl; long = e; small = tt }
 
 pub crypted-all : {run : ℕ → ℕ} {k s at : ℕ} {d : Direction} {input out : List ℕ} {state filled : ℕ} → Crypted run k s at d input out state filled → length input ≤ at
-    → (sealed-of d input out ≡ sealed-bytes run k s (text-of d input out)) × (state ≡ fed run k s (text-of d input out)) × (filled ≡ (k + length input) % 4)
+    → (sealed-of d input out ≡ sealed-bytes run k s (text-of d input out)) × (state ≡ fed run k s (text-of d input out)) × (filled ≡ (k + length input) % 4) × All-bytes out
 crypted-all {run} {k} {s} {at} {d} {input} {out} h l =
     let w = h .within in
     let long : length out ≡ length input = h .long in
@@ -188,4 +194,4 @@ crypted-all {run} {k} {s} {at} {d} {input} {out} h l =
     let both : (xs : List ℕ) → length xs ≡ length input → take at xs ≡ xs = λ xs e. take-all at xs (omega arith) in
     let t = both (text-of d input out) (either-length d input out long) in
     let c = both (sealed-of d input out) (other-length d input out long) in
-    (sym c ∙ h .made ∙ ap (sealed-bytes run k s) t, h .is ∙ ap (fed run k s) t, h .place ∙ ap (λ x. (k + x) % 4) (sym n))
+    (sym c ∙ h .made ∙ ap (sealed-bytes run k s) t, h .is ∙ ap (fed run k s) t, h .place ∙ ap (λ x. (k + x) % 4) (sym n), rw (both out long) at (h .small))

@@ -1,0 +1,83 @@
+-- What each call answers, and what it leaves in the out buffer, for all cases.
+use Prim.Native.Nat.{ℕ, _+_, _-_}
+use mathlib.Core.Path.{_≡_}
+use mathlib.Core.List.{List, _++_}
+use mathlib.Core.Bool.{Bool, cond, not}
+use lib.Dec.{ltb, eqb}
+use lib.ListN.{length, drop, replicate}
+use Rattle.std.specs.declared.option.Option.{Option}
+use Rattle.std.specs.declared.option.Option.the-variants.{Some, None}
+use Rattle.std.specs.declared.result.Result.{Result}
+use Rattle.std.specs.declared.result.Result.the-variants.{Ok, Err}
+use Rattle.tinyjambu.specs.declared.fault.Fault.{Fault}
+use Rattle.tinyjambu.specs.declared.refusal.Refusal.{Refusal}
+use Rattle.tinyjambu.specs.declared.refusal.Refusal.the-variants.{NonceLength, DataTooLong, TextTooLong, SealedTooShort, OutTooShort, Broken}
+use Rattle.tinyjambu.specs.Refusals.{outside}
+
+-- the most bytes of associated data, and of text
+abbrev pub longest : ℕ
+longest = 65536
+
+-- bytes at the start of a buffer, and the rest of it as it was
+abbrev pub written : List ℕ → List ℕ → List ℕ
+written bytes out = bytes ++ drop (length bytes) out
+
+-- a data piece: so many bytes were taken before, and so many come
+abbrev pub data-answer : ℕ → ℕ → Result Unit Fault
+data-answer taken more = cond (ltb longest (taken + more)) (Err (outside DataTooLong)) (Ok tt)
+
+-- a text piece, with so much room to write it to
+abbrev pub text-answer : ℕ → ℕ → ℕ → Result ℕ Fault
+text-answer taken more room =
+    cond (ltb longest (taken + more)) (Err (outside TextTooLong))
+    (cond (ltb room more) (Err (outside OutTooShort))
+    (Ok more))
+
+-- a sealing that has passed the checks answers the length of the sealed form and writes it at the start; a refused one writes nothing
+abbrev pub seal-answer : Option Refusal → ℕ → Result ℕ Fault
+seal-answer (Some r) t = Err (outside r)
+seal-answer None t = Ok (t + 8)
+
+abbrev pub seal-out : Option Refusal → List ℕ → List ℕ → List ℕ
+seal-out (Some r) sealed out = out
+seal-out None sealed out = written sealed out
+
+-- what refuses the sealing of so many bytes of data and text into so much room
+abbrev pub message-check : ℕ → ℕ → ℕ → Option Refusal
+message-check ad t room =
+    cond (ltb longest ad) (Some DataTooLong)
+    (cond (ltb longest t) (Some TextTooLong)
+    (cond (ltb room (t + 8)) (Some OutTooShort)
+    None))
+
+-- the same with a nonce of so many bytes
+abbrev pub seal-check : ℕ → ℕ → ℕ → ℕ → Option Refusal
+seal-check n ad t room = cond (eqb n 12) (message-check ad t room) (Some NonceLength)
+
+-- what refuses the opening of so many sealed bytes before the cipher is run
+abbrev pub open-check : ℕ → ℕ → ℕ → ℕ → Option Refusal
+open-check n ad c room =
+    cond (eqb n 12)
+    (cond (ltb longest ad) (Some DataTooLong)
+    (cond (ltb longest (c - 8)) (Some TextTooLong)
+    (cond (ltb c 8) (Some SealedTooShort)
+    (cond (ltb room (c - 8)) (Some OutTooShort)
+    None))))
+    (Some NonceLength)
+
+-- an opening that has passed the checks answers the length of the text and writes it at the start; a refused one leaves only zeros
+abbrev pub opened-answer : Option (List ℕ) → Result ℕ Fault
+opened-answer None = Err (outside Broken)
+opened-answer (Some t) = Ok (length t)
+
+abbrev pub opened-out : Option (List ℕ) → List ℕ → List ℕ
+opened-out None out = replicate (length out) 0
+opened-out (Some t) out = written t out
+
+abbrev pub open-answer : Option Refusal → Option (List ℕ) → Result ℕ Fault
+open-answer (Some r) text = Err (outside r)
+open-answer None text = opened-answer text
+
+abbrev pub open-out : Option Refusal → Option (List ℕ) → List ℕ → List ℕ
+open-out (Some r) text out = replicate (length out) 0
+open-out None text out = opened-out text out

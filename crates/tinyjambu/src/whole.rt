@@ -1,0 +1,103 @@
+ghost use mathlib.Core.Path.{_≡_};
+ghost use mathlib.Core.List.{List, [], _∷_};
+ghost use mathlib.Core.Bool.{true, false, cond};
+ghost use Prim.Native.Nat.{ℕ, _-_, _+_, _≤_};
+ghost use lib.Dec.{eqb};
+ghost use lib.ListN.{length, drop, take};
+ghost use Rattle.std.specs.Results.{isOk};
+ghost use Rattle.std.specs.declared.option.Option.the-variants.{Some, None};
+ghost use Rattle.tinyjambu.specs.Answers.{seal-check, seal-answer, seal-out, open-check, open-answer, open-out};
+ghost use Rattle.tinyjambu.specs.Bytes.{word-bytes};
+ghost use Rattle.tinyjambu.specs.History.{sealed-piece, sealed-tag};
+ghost use Rattle.tinyjambu.specs.Message.{nonce-words};
+ghost use Rattle.tinyjambu.specs.Mode.{seal, opened, same};
+ghost use Rattle.tinyjambu.specs.Laws.{Exact};
+use crate::direction::Direction;
+use crate::duplex::Duplex;
+use crate::engine::Engine;
+use crate::fault::Fault;
+use crate::limits::too_long;
+use crate::little_endian::load;
+use crate::pieces::seal_pieces;
+use crate::refusal::Refusal;
+use crate::wipe::Wipe;
+
+// The nonce as three words, if it has twelve bytes.
+fn nonce_words(nonce: &[u8]) -> Option<[u32; 3]>
+    ensures { λ r. ⌜ r ≡ nonce-words (now (nonce .entry)) ⌝ }
+{
+    if nonce.len() != 12 {
+        return None;
+    }
+    Some([load(nonce, 0), load(nonce, 4), load(nonce, 8)])
+}
+
+// Seals a text with its associated data: writes the sealed form at the start of `out`, and answers its length.
+pub fn seal<E: Engine>(engine: &mut E, nonce: &[u8], ad: &[u8], text: &[u8], out: &mut [u8]) -> Result<usize, Fault>
+    ensures answer { λ r. ⌜ r ≡ seal-answer (seal-check (length (now (nonce .entry))) (length (now (ad .entry))) (length (now (text .entry))) (length (now (out .entry)))) (length (now (text .entry))) ⌝ }
+    ensures out { λ _. ⌜ now (out .exit) ≡ seal-out (seal-check (length (now (nonce .entry))) (length (now (ad .entry))) (length (now (text .entry))) (length (now (out .entry)))) (seal (E·Engine .key (now (engine .entry))) (now (nonce .entry)) (now (ad .entry)) (now (text .entry))) (now (out .entry)) ⌝ }
+    ensures same { λ _. ⌜ E·Engine .key (now (engine .exit)) ≡ E·Engine .key (now (engine .entry)) ⌝ }
+    ensures refused { λ r. ⌜ (isOk r ≡ false → now (engine .exit) ≡ now (engine .entry)) ⌝ }
+{
+    let Some(words) = nonce_words(nonce) else {
+        return Err(Fault::outside(Refusal::NonceLength));
+    };
+    seal_pieces(engine, words, &[ad], &[text], out)
+}
+
+// Whether two tags are the same, without an early exit.
+fn same_tag(made: [u8; 8], given: &[u8]) -> bool
+    requires { ⌜ length (now given) ≡ 8 ⌝ }
+    ensures { λ r. ⌜ r ≡ same made (now (given .entry)) ⌝ }
+{
+    let mut differ: u8 = 0;
+    for i in 0..8usize {
+        differ |= made[i] ^ given[i];
+    }
+    differ == 0
+}
+
+// Recovers the text of sealed bytes into `out`, which is as long as the text, and says whether the tag is right.
+fn recover<E: Engine>(engine: &mut E, nonce: [u32; 3], ad: &[u8], sealed: &[u8], out: &mut [u8]) -> bool
+    requires { ⌜ length (now out) + 8 ≡ length (now sealed) ⌝ }
+    ensures text { λ r. ⌜ opened (E·Engine .key (now (engine .entry))) (word-bytes nonce) (now (ad .entry)) (now (sealed .entry)) ≡ cond r (Some (now (out .exit))) None ⌝ }
+    ensures same { λ _. ⌜ E·Engine .key (now (engine .exit)) ≡ E·Engine .key (now (engine .entry)) ⌝ }
+{
+    let len = out.len();
+    let mut duplex = Duplex::begin(engine, nonce);
+    duplex.absorb(engine, ad);
+    duplex.end_data();
+    duplex.crypt(engine, Direction::Opening, &sealed[0..len], out);
+    same_tag(duplex.tag(engine), &sealed[len..len + 8])
+}
+
+// Opens sealed bytes: writes the text that seals to them at the start of `out`, and answers its length. A refusal leaves only zeros in `out`.
+pub fn open<E: Engine>(engine: &mut E, nonce: &[u8], ad: &[u8], sealed: &[u8], out: &mut [u8]) -> Result<usize, Fault>
+    ensures answer { λ r. ⌜ r ≡ open-answer (open-check (length (now (nonce .entry))) (length (now (ad .entry))) (length (now (sealed .entry))) (length (now (out .entry)))) (opened (E·Engine .key (now (engine .entry))) (now (nonce .entry)) (now (ad .entry)) (now (sealed .entry))) ⌝ }
+    ensures out { λ _. ⌜ now (out .exit) ≡ open-out (open-check (length (now (nonce .entry))) (length (now (ad .entry))) (length (now (sealed .entry))) (length (now (out .entry)))) (opened (E·Engine .key (now (engine .entry))) (now (nonce .entry)) (now (ad .entry)) (now (sealed .entry))) (now (out .entry)) ⌝ }
+    ensures exact { λ r. ⌜ ((open-check (length (now (nonce .entry))) (length (now (ad .entry))) (length (now (sealed .entry))) (length (now (out .entry)))) ≡ None → Exact (E·Engine .key (now (engine .entry))) (now (nonce .entry)) (now (ad .entry)) (now (sealed .entry)) r (now (out .exit))) ⌝ }
+    ensures same { λ _. ⌜ E·Engine .key (now (engine .exit)) ≡ E·Engine .key (now (engine .entry)) ⌝ }
+{
+    let mut guard = Wipe { out, kept: false };
+    let Some(words) = nonce_words(nonce) else {
+        return Err(Fault::outside(Refusal::NonceLength));
+    };
+    let len = sealed.len().saturating_sub(8);
+    if too_long(0, ad.len()) {
+        return Err(Fault::outside(Refusal::DataTooLong));
+    }
+    if too_long(0, len) {
+        return Err(Fault::outside(Refusal::TextTooLong));
+    }
+    if sealed.len() < 8 {
+        return Err(Fault::outside(Refusal::SealedTooShort));
+    }
+    if guard.out.len() < len {
+        return Err(Fault::outside(Refusal::OutTooShort));
+    }
+    if !recover(engine, words, ad, sealed, &mut guard.out[0..len]) {
+        return Err(Fault::outside(Refusal::Broken));
+    }
+    guard.kept = true;
+    Ok(len)
+}
