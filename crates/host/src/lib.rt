@@ -1,43 +1,91 @@
+// The calls for a C host, on byte slices: each passes as a pointer and a length. A C header documents them, include/vurshade.h.
+ghost use mathlib.Core.Path.{_≡_};
+ghost use Prim.Native.Nat.{_^_, _<_};
+ghost use lib.ListN.{length};
+ghost use Rattle.std.specs.Vec.{made};
+ghost use Rattle.tinyjambu.specs.Answers.{seal-check, seal-answer, seal-out, open-check, open-answer, open-out};
+ghost use Rattle.tinyjambu.specs.Mode.{seal, opened};
+ghost use Rattle.host.specs.Host.{signed, host-check};
 use tinyjambu::Fault;
 use tinyjambu::Key;
 use tinyjambu::Wipe;
 use tinyjambu::WordEngine;
 use tinyjambu::WordEngineRuns;
 
-// What a C host is answered: the length, or the refusal's number negated.
-fn signed(answer: Result<usize, Fault>) -> i64 {
+// The answer as one number: the length, or the refusal's number negated.
+fn as_signed(answer: Result<usize, Fault>) -> i64
+    requires { ⌜ made answer (λ n. n < 2 ^ 63) ⌝ }
+    ensures { λ r. ⌜ r ≡ signed answer ⌝ }
+{
     match answer {
-        Ok(len) => if len < 1 << 32 { len as i64 } else { 0 },
+        Ok(len) => len as i64,
         Err(fault) => -i64::from(fault.refusal.number()),
     }
 }
 
-// The engine of a key, if its bytes are 16, 24 or 32.
-fn engine_of(key: &[u8]) -> Result<WordEngine, Fault> {
+// Whole sealing under a key of bytes.
+fn seal_under(
+    key: &[u8],
+    nonce: &[u8],
+    ad: &[u8],
+    text: &[u8],
+    out: &mut [u8],
+) -> Result<usize, Fault>
+    ensures answer { λ r. ⌜ r ≡ seal-answer (host-check (now (key .entry)) (seal-check (length (now (nonce .entry))) (length (now (ad .entry))) (length (now (text .entry))) (length (now (out .entry))))) (length (now (text .entry))) ⌝ }
+    ensures out { λ _. ⌜ now (out .exit) ≡ seal-out (host-check (now (key .entry)) (seal-check (length (now (nonce .entry))) (length (now (ad .entry))) (length (now (text .entry))) (length (now (out .entry))))) (seal (now (key .entry)) (now (nonce .entry)) (now (ad .entry)) (now (text .entry))) (now (out .entry)) ⌝ }
+{
     let mut filled = Key::new();
     filled.fill(key)?;
-    Ok(WordEngine::new(filled))
-}
-
-fn seal(key: &[u8], nonce: &[u8], ad: &[u8], text: &[u8], out: &mut [u8]) -> Result<usize, Fault> {
-    let mut engine = engine_of(key)?;
+    let mut engine = WordEngine::new(filled);
     tinyjambu::seal(&mut engine, nonce, ad, text, out)
 }
 
-fn open(key: &[u8], nonce: &[u8], ad: &[u8], sealed: &[u8], out: &mut [u8]) -> Result<usize, Fault> {
+// Whole opening under a key of bytes.
+fn open_under(
+    key: &[u8],
+    nonce: &[u8],
+    ad: &[u8],
+    sealed: &[u8],
+    out: &mut [u8],
+) -> Result<usize, Fault>
+    ensures answer { λ r. ⌜ r ≡ open-answer (host-check (now (key .entry)) (open-check (length (now (nonce .entry))) (length (now (ad .entry))) (length (now (sealed .entry))) (length (now (out .entry))))) (opened (now (key .entry)) (now (nonce .entry)) (now (ad .entry)) (now (sealed .entry))) ⌝ }
+    ensures out { λ _. ⌜ now (out .exit) ≡ open-out (host-check (now (key .entry)) (open-check (length (now (nonce .entry))) (length (now (ad .entry))) (length (now (sealed .entry))) (length (now (out .entry))))) (opened (now (key .entry)) (now (nonce .entry)) (now (ad .entry)) (now (sealed .entry))) (now (out .entry)) ⌝ }
+{
     let mut guard = Wipe { out, kept: false };
-    let mut engine = engine_of(key)?;
-    let r = tinyjambu::open(&mut engine, nonce, ad, sealed, &mut *guard.out);
-    guard.kept = r.is_ok();
-    r
+    let mut filled = Key::new();
+    filled.fill(key)?;
+    let mut engine = WordEngine::new(filled);
+    let answer = tinyjambu::open(&mut engine, nonce, ad, sealed, guard.out);
+    guard.kept = true;
+    answer
 }
 
+// Seals a text with its associated data under a key and a nonce.
 #[unsafe(no_mangle)]
-pub extern "C" fn vurshade_seal(key: &[u8], nonce: &[u8], ad: &[u8], text: &[u8], out: &mut [u8]) -> i64 {
-    signed(seal(key, nonce, ad, text, out))
+pub extern "C" fn vurshade_seal(
+    key: &[u8],
+    nonce: &[u8],
+    ad: &[u8],
+    text: &[u8],
+    out: &mut [u8],
+) -> i64
+    ensures answer { λ r. ⌜ r ≡ signed (seal-answer (host-check (now (key .entry)) (seal-check (length (now (nonce .entry))) (length (now (ad .entry))) (length (now (text .entry))) (length (now (out .entry))))) (length (now (text .entry)))) ⌝ }
+    ensures out { λ _. ⌜ now (out .exit) ≡ seal-out (host-check (now (key .entry)) (seal-check (length (now (nonce .entry))) (length (now (ad .entry))) (length (now (text .entry))) (length (now (out .entry))))) (seal (now (key .entry)) (now (nonce .entry)) (now (ad .entry)) (now (text .entry))) (now (out .entry)) ⌝ }
+{
+    as_signed(seal_under(key, nonce, ad, text, out))
 }
 
+// Opens sealed bytes with their associated data under a key and a nonce.
 #[unsafe(no_mangle)]
-pub extern "C" fn vurshade_open(key: &[u8], nonce: &[u8], ad: &[u8], sealed: &[u8], out: &mut [u8]) -> i64 {
-    signed(open(key, nonce, ad, sealed, out))
+pub extern "C" fn vurshade_open(
+    key: &[u8],
+    nonce: &[u8],
+    ad: &[u8],
+    sealed: &[u8],
+    out: &mut [u8],
+) -> i64
+    ensures answer { λ r. ⌜ r ≡ signed (open-answer (host-check (now (key .entry)) (open-check (length (now (nonce .entry))) (length (now (ad .entry))) (length (now (sealed .entry))) (length (now (out .entry))))) (opened (now (key .entry)) (now (nonce .entry)) (now (ad .entry)) (now (sealed .entry)))) ⌝ }
+    ensures out { λ _. ⌜ now (out .exit) ≡ open-out (host-check (now (key .entry)) (open-check (length (now (nonce .entry))) (length (now (ad .entry))) (length (now (sealed .entry))) (length (now (out .entry))))) (opened (now (key .entry)) (now (nonce .entry)) (now (ad .entry)) (now (sealed .entry))) (now (out .entry)) ⌝ }
+{
+    as_signed(open_under(key, nonce, ad, sealed, out))
 }

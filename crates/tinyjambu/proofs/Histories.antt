@@ -27,14 +27,14 @@ module _ (key nonce : List ℕ) where
   data-more ad p s k s′ k′ h small e f = record {
     small = all-append (λ b. b < 256) ad p (h .small) small;
     state = e ∙ ap₂ (λ x y. fed (data-run key) x y p) (h .filled) (h .state) ∙ fed-after (data-run key) ad p (begun key nonce);
-    filled = f ∙ place-more (length ad) (length p) k (h .filled) ∙ ap (λ n. n % 4) (sym (length-append ad p))
+    filled = f ∙ place-more (length ad) (length p) k (h .filled) ∙ ap (λ n. n % 4) (sym (length-append ad p));
   }
 
   pub data-all : (ad : List ℕ) (s k s′ k′ : ℕ) → Took-data key nonce ad s k → s′ ≡ closed k s → k′ ≡ 0 → Took-text key nonce ad [] s′ k′
   data-all ad s k s′ k′ h e f = record {
     small = tt;
     state = e ∙ ap₂ closed (h .filled) (h .state) ∙ fed-blocks (data-run key) ad (begun key nonce) (h .small) ∙ sym (absorbed-is key (begun key nonce) (blocks ad));
-    filled = f
+    filled = f;
   }
 
   -- from the state after the associated data
@@ -47,7 +47,7 @@ module _ (key nonce : List ℕ) where
     text-more t p s k s′ k′ h small e f = record {
       small = all-append (λ b. b < 256) t p (h .small) small;
       state = e ∙ ap₂ (λ x y. fed (text-run key) x y p) (h .filled) (h .state) ∙ fed-after (text-run key) t p start;
-      filled = f ∙ place-more (length t) (length p) k (h .filled) ∙ ap (λ n. n % 4) (sym (length-append t p))
+      filled = f ∙ place-more (length t) (length p) k (h .filled) ∙ ap (λ n. n % 4) (sym (length-append t p));
     }
 
     sealed-is : (t : List ℕ) → All-bytes t → sealed-bytes (text-run key) 0 start t ≡ ciphertext key start (blocks t)

@@ -85,9 +85,10 @@ module _ (key nonce ad : List ℕ) where
       let t : List ℕ = message (take i ps) in
       let p : List ℕ = now (getD ps i nothing) in
       let more = message-more ps i h in
-      let small : All-bytes p = rw (drop-at t p (length t) refl) at (all-drop (λ b. b < 256) (length t) (t ++ p) (after .small)) in
-      (rw more after,
-      take-putMid at (at + length p - at) out part (at + length p) (ap (λ x. at + x) (sym m)) l ∙ ap₂ _++_ e f ∙ sealed-join t p (before .small) small ∙ ap (sealed-piece key nonce ad []) (sym more))
+      let small : All-bytes p = rw (drop-at t p (length t) refl) at (all-drop (λ b. b < 256) (length t) (t ++ p) (after .small)) in (
+        rw more after,
+        take-putMid at (at + length p - at) out part (at + length p) (ap (λ x. at + x) (sym m)) l ∙ ap₂ _++_ e f ∙ sealed-join t p (before .small) small ∙ ap (sealed-piece key nonce ad []) (sym more),
+      )
 
 -- a total that passed the test for length is the message's own
 pub passed : (n r : ℕ) → r ≡ min n (2 ^ 64 - 1) → false ≡ ltb longest (0 + r) → (n ≤ longest) × (r ≡ n)

@@ -4,18 +4,18 @@ use mathlib.Core.Path.{_≡_, refl, sym, ap, ap₂, _∙_}
 use mathlib.Core.List.{List, [], _∷_, _++_, append-nil}
 use mathlib.Core.Bool.{Bool, true, false, cond, _&&_}
 use native.Mathlib.Omega.{arith}
-use lib.Dec.{leb, eqb}
+use lib.Dec.{leb, eqb, ltb}
 use lib.ListN.{length, take, drop, length-drop, take-append-drop}
 use Rattle.std.specs.declared.option.Option.{Option}
 use Rattle.std.specs.declared.option.Option.the-variants.{Some, None}
 use Rattle.std.specs.declared.result.Result.{Result}
 use Rattle.std.specs.declared.result.Result.the-variants.{Ok, Err}
-use Rattle.std.proofs.shelf.Tests.{le-leb, le-ltb, eqb-true, cond-true, cond-false}
+use Rattle.std.proofs.shelf.Tests.{le-leb, le-ltb, ltb-false, eqb-true, cond-true, cond-false}
 use Rattle.std.proofs.shelf.Elements.{all-take, all-drop}
 use Rattle.std.proofs.shelf.Lists.{take-at, drop-at, take-all, drop-drop, length-take-le}
 use Rattle.tinyjambu.specs.declared.fault.Fault.{Fault}
 use Rattle.tinyjambu.specs.declared.refusal.Refusal.{Refusal}
-use Rattle.tinyjambu.specs.declared.refusal.Refusal.the-variants.{Broken}
+use Rattle.tinyjambu.specs.declared.refusal.Refusal.the-variants.{NonceLength, DataTooLong, TextTooLong, Broken}
 use Rattle.tinyjambu.specs.Answers.{longest, written, open-check, open-answer, open-out, opened-answer, opened-out}
 use Rattle.tinyjambu.specs.Bytes.{number, bytes, word-bytes, All-bytes}
 use Rattle.tinyjambu.specs.History.{sealed-piece, sealed-tag}
@@ -25,7 +25,7 @@ use Rattle.tinyjambu.specs.Mode.{begun, blocks, absorbed, ciphertext, text-sta
 use Rattle.tinyjambu.specs.Refusals.{outside}
 use Rattle.tinyjambu.proofs.Exact.{opens-exactly, opened-text, opened-state, some-if}
 use Rattle.tinyjambu.proofs.Joined.{bytes-number}
-use Rattle.tinyjambu.proofs.Sealing.{seal-one, ciphertext-length}
+use Rattle.tinyjambu.proofs.Sealing.{seal-one, seal-length, ciphertext-length}
 
 module _ (key n ad : List ℕ) where
   abbrev start : ℕ
@@ -66,7 +66,7 @@ module _ (key n ad : List ℕ) where
     gives = λ m f. let z : _≡_ {A = ℕ} 0 1 = cc in absurd (omega arith);
     finds = λ t f. let g = opens-exactly key n ad c t .1 f in let z : _≡_ {A = ℕ} 0 1 = cc in absurd (omega arith);
     one = λ t u f g. seal-one key n ad t u (f ∙ sym g);
-    none = λ f. refl
+    none = λ f. refl;
   }
   exact-by c (Some t) out e = record {
     gives = λ m f. let k : length t ≡ m = cc in ap (seal key n ad) (take-at t (drop (length t) out) m k) ∙ opens-exactly key n ad c t .0 e;
@@ -75,7 +75,7 @@ module _ (key n ad : List ℕ) where
         let same : t ≡ u = cc in
         (ap (λ x. Ok (length x)) same, take-at t (drop (length t) out) (length u) (ap length same) ∙ same);
     one = λ t u f g. seal-one key n ad t u (f ∙ sym g);
-    none = λ f. absurd (f t (opens-exactly key n ad c t .0 e))
+    none = λ f. absurd (f t (opens-exactly key n ad c t .0 e));
   }
 
 -- a nonce that was taken for three words has their bytes
@@ -85,8 +85,8 @@ nonce-taken n ws small e =
     let l = eqb-true (length n) 12 (p .0) in
     let part : (i : ℕ) → i + 4 ≤ 12 → bytes 4 (number (take 4 (drop i n))) ≡ take 4 (drop i n)
     = λ i h.
-        let k : length (take 4 (drop i n)) ≡ 4 = length-take-le 4 (drop i n) (rw length-drop (omega arith)) in
-        ap (λ m. bytes m (number (take 4 (drop i n)))) (sym k) ∙ bytes-number (take 4 (drop i n)) (all-take (λ b. b < 256) 4 (drop i n) (all-drop (λ b. b < 256) i n small)) in
+    let k : length (take 4 (drop i n)) ≡ 4 = length-take-le 4 (drop i n) (rw length-drop (omega arith)) in
+    ap (λ m. bytes m (number (take 4 (drop i n)))) (sym k) ∙ bytes-number (take 4 (drop i n)) (all-take (λ b. b < 256) 4 (drop i n) (all-drop (λ b. b < 256) i n small)) in
     let last : take 4 (drop 8 n) ++ [] ≡ drop 8 n = append-nil (take 4 (drop 8 n)) ∙ take-all 4 (drop 8 n) (rw length-drop (omega arith)) in
     let middle : take 4 (drop 4 n) ++ drop 8 n ≡ drop 4 n = ap (λ x. take 4 (drop 4 n) ++ x) (sym (drop-drop 4 4 n)) ∙ take-append-drop 4 (drop 4 n) in
     (p .0, ap word-bytes (sym (p .1)) ∙ ap₂ _++_ (part 0 (omega arith)) (ap₂ _++_ (part 4 (omega arith)) (ap (λ x. x ++ []) (part 8 (omega arith)) ∙ last) ∙ middle) ∙ take-append-drop 4 n)
@@ -107,5 +107,25 @@ pub opened-by : (key n ad c out : List ℕ) (check : Option Refusal) (o : Option
 opened-by key n ad c out check o answer after e f g h = record {
   answer = g ∙ sym (ap₂ open-answer e f);
   bytes = h ∙ sym (ap₂ (λ x y. open-out x y out) e f);
-  exact = rw (g, h) (exact-by key n ad c o out f)
+  exact = rw (g, h) (exact-by key n ad c o out f);
 }
+
+-- a text that was opened is 8 bytes shorter
+pub opened-length : (key n ad c t : List ℕ) → opened key n ad c ≡ Some t → length t + 8 ≡ length c
+opened-length key n ad c t e = sym (seal-length key n ad t) ∙ ap length (opens-exactly key n ad c t .0 e)
+
+-- where no check refuses, each one passed
+pub none-passed : (b : Bool) (r : Refusal) (rest : Option Refusal) → cond b (Some r) rest ≡ None → (b ≡ false) × (rest ≡ None)
+none-passed true r rest e = let z : _≡_ {A = ℕ} 0 1 = cc in absurd (omega arith)
+none-passed false r rest e = (refl, e)
+
+pub none-taken : (b : Bool) (r : Refusal) (rest : Option Refusal) → cond b rest (Some r) ≡ None → (b ≡ true) × (rest ≡ None)
+none-taken true r rest e = (refl, e)
+none-taken false r rest e = let z : _≡_ {A = ℕ} 0 1 = cc in absurd (omega arith)
+
+pub open-check-short : (n ad c room : ℕ) → open-check n ad c room ≡ None → c - 8 ≤ longest
+open-check-short n ad c room e =
+    let p = none-taken (eqb n 12) NonceLength _ e in
+    let q = none-passed (ltb longest ad) DataTooLong _ (p .1) in
+    let r = none-passed (ltb longest (c - 8)) TextTooLong _ (q .1) in
+    ltb-false longest (c - 8) (r .0)

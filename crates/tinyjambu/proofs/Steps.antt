@@ -35,7 +35,7 @@ module _ {run : ℕ → ℕ} {k s at : ℕ} {piece : List ℕ} {state filled : �
         within = l;
         few = few;
         is = p ∙ ap₂ (λ x y. fed run x y part) (place ∙ ap (λ x. (k + x) % 4) (sym m)) (h .is) ∙ sym (ap (fed run k s) e ∙ fed-append run (take at piece) part k s few);
-        place = omega arith
+        place = omega arith;
       }
 
   pub fed-byte-more : (next after : ℕ) → at < length piece → next ≡ fed-byte run filled state (getD piece at 0) → after ≡ (filled + 1) % 4
@@ -117,13 +117,13 @@ word-block Sealing part r n small h = record {
   length = n;
   small = small;
   text = refl;
-  sealed = λ k e. ap (bytes 4) e ∙ ap (λ m. bytes m (bitXor (number part) k)) (sym n) ∙ sym (xored-bytes part k small)
+  sealed = λ k e. ap (bytes 4) e ∙ ap (λ m. bytes m (bitXor (number part) k)) (sym n) ∙ sym (xored-bytes part k small);
 }
 word-block Opening part r n small h = record {
   length = refl;
   small = all-bytes-of 4 r;
   text = number-bytes 4 r h;
-  sealed = λ k e. sym (bytes-number part small) ∙ ap₂ bytes n (e ∙ ap (λ x. bitXor x k) (sym (number-bytes 4 r h))) ∙ sym (xored-bytes (bytes 4 r) k (all-bytes-of 4 r))
+  sealed = λ k e. sym (bytes-number part small) ∙ ap₂ bytes n (e ∙ ap (λ x. bitXor x k) (sym (number-bytes 4 r h))) ∙ sym (xored-bytes (bytes 4 r) k (all-bytes-of 4 r));
 }
 
 module _ {run : ℕ → ℕ} {k s at : ℕ} {d : Direction} {input out : List ℕ} {state filled : ℕ} (h : Crypted run k s at d input out state filled) where
@@ -149,7 +149,7 @@ module _ {run : ℕ → ℕ} {k s at : ℕ} {d : Direction} {input out : List �
         place = omega arith;
         made = both .1 ∙ ap₂ _++_ (h .made) (made ∙ ap₂ (λ x y. sealed-bytes run x y (text-of d part other)) f (h .is)) ∙ sym (ap (sealed-bytes run k s) (both .0) ∙ sealed-append run text (text-of d part other) k s few);
         long = long;
-        small = rw q (all-append (λ b. b < 256) (take at out) other (h .small) small)
+        small = rw q (all-append (λ b. b < 256) (take at out) other (h .small) small);
       }
 
   pub crypted-byte-more : (r after place : ℕ) → at < length input → r < 256 → after ≡ fed-byte run filled state (text-of d (getD input at 0) r) → place ≡ (filled + 1) % 4

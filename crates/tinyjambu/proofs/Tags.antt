@@ -22,13 +22,14 @@ xor-none a b e = omega (arith, xor-add-and a b, and-le-l a b, and-le-r a b)
 pub tag-more : (xs ys : List ℕ) (i d : ℕ) → i < length xs → i < length ys → (d ≡ 0 → take i xs ≡ take i ys) → (take i xs ≡ take i ys → d ≡ 0)
     → (bitOr d (bitXor (getD xs i 0) (getD ys i 0)) ≡ 0 → take (i + 1) xs ≡ take (i + 1) ys)
     × (take (i + 1) xs ≡ take (i + 1) ys → bitOr d (bitXor (getD xs i 0) (getD ys i 0)) ≡ 0)
-tag-more xs ys i d h l there back =
-    (λ e. let none = or-none d (bitXor (getD xs i 0) (getD ys i 0)) e in
-    take-more-same xs ys i 0 h l (there (none .0)) (xor-none (getD xs i 0) (getD ys i 0) (none .1)),
-    λ e.
-    let front : take i xs ≡ take i ys = sym (take-take i (i + 1) xs (omega arith)) ∙ ap (take i) e ∙ take-take i (i + 1) ys (omega arith) in
-    let last : getD xs i 0 ≡ getD ys i 0 = sym (getD-take (i + 1) xs i 0 (omega arith)) ∙ ap (λ zs. getD zs i 0) e ∙ getD-take (i + 1) ys i 0 (omega arith) in
-    ap₂ bitOr (back front) (ap (λ x. bitXor x (getD ys i 0)) last ∙ xor-self (getD ys i 0)))
+tag-more xs ys i d h l there back = (
+  λ e. let none = or-none d (bitXor (getD xs i 0) (getD ys i 0)) e in
+      take-more-same xs ys i 0 h l (there (none .0)) (xor-none (getD xs i 0) (getD ys i 0) (none .1)),
+  λ e.
+      let front : take i xs ≡ take i ys = sym (take-take i (i + 1) xs (omega arith)) ∙ ap (take i) e ∙ take-take i (i + 1) ys (omega arith) in
+      let last : getD xs i 0 ≡ getD ys i 0 = sym (getD-take (i + 1) xs i 0 (omega arith)) ∙ ap (λ zs. getD zs i 0) e ∙ getD-take (i + 1) ys i 0 (omega arith) in
+      ap₂ bitOr (back front) (ap (λ x. bitXor x (getD ys i 0)) last ∙ xor-self (getD ys i 0)),
+)
 
 both : (b c : Bool) → (b ≡ true → c ≡ true) → (c ≡ true → b ≡ true) → b ≡ c
 both true c f g = sym (f refl)

@@ -28,7 +28,10 @@ impl BitEngine {
     {
         let mut s = as_number(state);
         for i in 0..count {
-            s = bit_round(s, self.key.word((i / 32) as usize % self.key.used()) >> (i % 32));
+            s = bit_round(
+                s,
+                self.key.word((i / 32) as usize % self.key.used()) >> (i % 32),
+            );
         }
         as_words(s)
     }
@@ -44,6 +47,7 @@ fn bit_round(s: u128, k: u32) -> u128
 
 pub impl Engine for BitEngine as BitEngineRuns {
     ghost key = { λ s. key-of (s .key .words) (s .key .used) };
+
     ghost sized = { λ s. key-of-sized (s .key .words) (s .key .used) (s .key .least) (s .key .most) (s .key .even) (s .key .stored) };
 
     fn short_run(&mut self, state: [u32; 4]) -> [u32; 4] {

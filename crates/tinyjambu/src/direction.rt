@@ -10,7 +10,7 @@ pub enum Direction {
 
 impl Direction {
     // Which of input and output is the text.
-    pub fn text<T: Copy>(self, input: T, output: T) -> T
+    pub(crate) fn text<T: Copy>(self, input: T, output: T) -> T
         ensures { λ r. ⌜ r ≡ text-of self input output ⌝ }
     {
         match self {

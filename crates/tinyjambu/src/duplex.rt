@@ -36,7 +36,7 @@ fn nonce_step<E: Engine>(engine: &mut E, state: State, word: u32) -> State
 
 impl Duplex {
     // Takes the key and the nonce.
-    pub fn begin<E: Engine>(engine: &mut E, nonce: [u32; 3]) -> Duplex
+    pub(crate) fn begin<E: Engine>(engine: &mut E, nonce: [u32; 3]) -> Duplex
         ensures took { λ r. ⌜ Took-data (E·Engine .key (now (engine .entry))) (word-bytes nonce) [] (joined (r .state)) (r .filled) ⌝ }
         ensures same { λ _. ⌜ E·Engine .key (now (engine .exit)) ≡ E·Engine .key (now (engine .entry)) ⌝ }
     {
@@ -110,7 +110,7 @@ impl Duplex {
     }
 
     // Takes a piece of associated data.
-    pub fn absorb<E: Engine>(&mut self, engine: &mut E, piece: &[u8])
+    pub(crate) fn absorb<E: Engine>(&mut self, engine: &mut E, piece: &[u8])
         ensures took { λ _. ⌜ ((nonce ad : List ℕ) → Took-data (E·Engine .key (now (engine .entry))) nonce ad (joined (now (self .entry) .state)) (now (self .entry) .filled) → Took-data (E·Engine .key (now (engine .entry))) nonce (ad ++ now (piece .entry)) (joined (now (self .exit) .state)) (now (self .exit) .filled)) ⌝ }
         ensures same { λ _. ⌜ E·Engine .key (now (engine .exit)) ≡ E·Engine .key (now (engine .entry)) ⌝ }
     {
@@ -127,7 +127,7 @@ impl Duplex {
     }
 
     // Ends the associated data.
-    pub fn end_data(&mut self)
+    pub(crate) fn end_data(&mut self)
         ensures took { λ _. ⌜ ((key nonce ad : List ℕ) → Took-data key nonce ad (joined (now (self .entry) .state)) (now (self .entry) .filled) → Took-text key nonce ad [] (joined (now (self .exit) .state)) (now (self .exit) .filled)) ⌝ }
     {
         self.close();
@@ -161,7 +161,13 @@ impl Duplex {
     }
 
     // Takes a piece of the text, or of the sealed text, and writes the other.
-    pub fn crypt<E: Engine>(&mut self, engine: &mut E, direction: Direction, input: &[u8], out: &mut [u8])
+    pub(crate) fn crypt<E: Engine>(
+        &mut self,
+        engine: &mut E,
+        direction: Direction,
+        input: &[u8],
+        out: &mut [u8],
+    )
         requires { ⌜ length (now out) ≡ length (now input) ⌝ }
         ensures took { λ _. ⌜ ((nonce ad t : List ℕ) → Took-text (E·Engine .key (now (engine .entry))) nonce ad t (joined (now (self .entry) .state)) (now (self .entry) .filled) → Took-text (E·Engine .key (now (engine .entry))) nonce ad (t ++ text-of direction (now (input .entry)) (now (out .exit))) (joined (now (self .exit) .state)) (now (self .exit) .filled)) ⌝ }
         ensures out { λ _. ⌜ ((nonce ad t : List ℕ) → Took-text (E·Engine .key (now (engine .entry))) nonce ad t (joined (now (self .entry) .state)) (now (self .entry) .filled) → sealed-of direction (now (input .entry)) (now (out .exit)) ≡ sealed-piece (E·Engine .key (now (engine .entry))) nonce ad t (text-of direction (now (input .entry)) (now (out .exit)))) ⌝ }
@@ -194,7 +200,7 @@ impl Duplex {
     }
 
     // Ends the text, and gives the tag.
-    pub fn tag<E: Engine>(&mut self, engine: &mut E) -> [u8; 8]
+    pub(crate) fn tag<E: Engine>(&mut self, engine: &mut E) -> [u8; 8]
         ensures result { λ r. ⌜ ((nonce ad t : List ℕ) → Took-text (E·Engine .key (now (engine .entry))) nonce ad t (joined (now (self .entry) .state)) (now (self .entry) .filled) → r ≡ sealed-tag (E·Engine .key (now (engine .entry))) nonce ad t) ⌝ }
         ensures same { λ _. ⌜ E·Engine .key (now (engine .exit)) ≡ E·Engine .key (now (engine .entry)) ⌝ }
     {

@@ -10,6 +10,7 @@ ghost use Rattle.tinyjambu.specs.Keys.{Key-size};
 pub trait Engine {
     // The bytes of the key, of which there are 16, 24 or 32.
     ghost key: { Self → List ℕ };
+
     ghost sized: { (s : Self) → Key-size (key s) };
 
     // The state after 640 rounds.

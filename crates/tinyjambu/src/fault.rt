@@ -1,5 +1,6 @@
 ghost use mathlib.Core.Path.{_≡_};
-ghost use Rattle.tinyjambu.specs.Refusals.{outside};
+ghost use Rattle.std.specs.declared.option.Option.the-variants.{Some};
+ghost use Rattle.tinyjambu.specs.Refusals.{outside, fault-text};
 use crate::refusal::Refusal;
 use crate::refusal::RefusalDebug;
 use crate::refusal::RefusalPartialEq;
@@ -27,11 +28,16 @@ impl Fault {
 }
 
 pub impl fmt::Display for Fault as FaultDisplay {
+    ghost shown = { λ f. Some (fault-text f) };
+
     fn fmt<W: fmt::Write>(&self, f: &mut fmt::Formatter<W>) -> fmt::Result {
         let number = self.refusal.number();
         let words = self.refusal.words();
         let floor = self.floor;
         let entry = self.entry;
-        write!(f, "refusal {number}: {words} (floor {floor}, entry {entry})")
+        write!(
+            f,
+            "refusal {number}: {words} (floor {floor}, entry {entry})"
+        )
     }
 }

@@ -14,6 +14,7 @@ mod state;
 mod whole;
 mod wipe;
 mod word_engine;
+
 pub use bit_engine::BitEngine;
 pub use bit_engine::BitEngineRuns;
 pub use engine::Engine;

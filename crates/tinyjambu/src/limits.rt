@@ -7,7 +7,7 @@ ghost use Rattle.tinyjambu.specs.Answers.{longest};
 const LONGEST: usize = 65536;
 
 // Whether `taken` bytes and `more` pass the limit.
-pub fn too_long(taken: usize, more: usize) -> bool
+pub(crate) fn too_long(taken: usize, more: usize) -> bool
     ensures { λ r. ⌜ r ≡ ltb longest (taken + more) ⌝ }
 {
     more > LONGEST || taken > LONGEST - more

@@ -5,7 +5,7 @@ ghost use mathlib.Core.List.{_++_};
 ghost use Rattle.tinyjambu.specs.Bytes.{number, bytes};
 
 // The word of the four bytes from `at` on, the least byte first.
-pub fn load(bytes: &[u8], at: usize) -> u32
+pub(crate) fn load(bytes: &[u8], at: usize) -> u32
     requires { ⌜ at + 4 ≤ length (now bytes) ⌝ }
     ensures { λ r. ⌜ r ≡ number (take 4 (drop at (now (bytes .entry)))) ⌝ }
 {
@@ -13,7 +13,7 @@ pub fn load(bytes: &[u8], at: usize) -> u32
 }
 
 // Writes the four bytes of a word from `at` on, the least byte first.
-pub fn store(out: &mut [u8], at: usize, word: u32)
+pub(crate) fn store(out: &mut [u8], at: usize, word: u32)
     requires { ⌜ at + 4 ≤ length (now out) ⌝ }
     ensures { λ _. ⌜ now (out .exit) ≡ take at (now (out .entry)) ++ (bytes 4 word ++ drop (at + 4) (now (out .entry))) ⌝ }
 {

@@ -53,7 +53,13 @@ fn crypt_pieces<E: Engine>(duplex: &mut Duplex, engine: &mut E, pieces: &[&[u8]]
 }
 
 // Seals the message of which data and text come in pieces: writes the sealed form of the joined message at the start of `out`, and answers its length.
-pub fn seal_pieces<E: Engine>(engine: &mut E, nonce: [u32; 3], ad: &[&[u8]], text: &[&[u8]], out: &mut [u8]) -> Result<usize, Fault>
+pub fn seal_pieces<E: Engine>(
+    engine: &mut E,
+    nonce: [u32; 3],
+    ad: &[&[u8]],
+    text: &[&[u8]],
+    out: &mut [u8],
+) -> Result<usize, Fault>
     ensures answer { λ r. ⌜ r ≡ seal-answer (message-check (length (message (now (ad .entry)))) (length (message (now (text .entry)))) (length (now (out .entry)))) (length (message (now (text .entry)))) ⌝ }
     ensures out { λ _. ⌜ now (out .exit) ≡ seal-out (message-check (length (message (now (ad .entry)))) (length (message (now (text .entry)))) (length (now (out .entry)))) (seal (E·Engine .key (now (engine .entry))) (word-bytes nonce) (message (now (ad .entry))) (message (now (text .entry)))) (now (out .entry)) ⌝ }
     ensures same { λ _. ⌜ E·Engine .key (now (engine .exit)) ≡ E·Engine .key (now (engine .entry)) ⌝ }

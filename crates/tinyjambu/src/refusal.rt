@@ -1,6 +1,5 @@
 ghost use mathlib.Core.Path.{_≡_};
-ghost use Rattle.tinyjambu.specs.Refusals.{refusal-number};
-
+ghost use Rattle.tinyjambu.specs.Refusals.{refusal-number, refusal-words};
 
 // Why a call was refused. The number of each case is part of the interface.
 #[derive(Clone, Copy, PartialEq, Eq, Debug)]
@@ -29,7 +28,9 @@ impl Refusal {
     }
 
     // The refusal in words.
-    pub fn words(self) -> &'static str {
+    pub fn words(self) -> &'static str
+        ensures { λ r. ⌜ now r ≡ refusal-words self ⌝ }
+    {
         match self {
             Refusal::KeyLength => "the key is not 16, 24 or 32 bytes",
             Refusal::NonceLength => "the nonce is not 12 bytes",

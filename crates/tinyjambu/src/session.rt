@@ -96,7 +96,12 @@ impl<E: Engine> TextSession<E> {
         if out.len() < len {
             return Err(Fault::outside(Refusal::OutTooShort));
         }
-        self.duplex.crypt(&mut self.engine, Direction::Sealing, piece, &mut out[0..len]);
+        self.duplex.crypt(
+            &mut self.engine,
+            Direction::Sealing,
+            piece,
+            &mut out[0..len],
+        );
         self.taken += len;
         Ok(len)
     }

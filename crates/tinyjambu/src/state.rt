@@ -9,7 +9,7 @@ use crate::engine::Engine;
 pub type State = [u32; 4];
 
 // The state as one number, of which bit j is s_j.
-pub fn as_number(parts: State) -> u128
+pub(crate) fn as_number(parts: State) -> u128
     ensures { λ r. ⌜ r ≡ joined parts ⌝ }
 {
     let [a, b, c, d] = parts;
@@ -17,7 +17,7 @@ pub fn as_number(parts: State) -> u128
 }
 
 // The state of a number.
-pub fn as_words(n: u128) -> State
+pub(crate) fn as_words(n: u128) -> State
     ensures { λ r. ⌜ r ≡ words 4 n ⌝ }
 {
     const SIZE: u128 = 1 << 32;
@@ -30,7 +30,7 @@ pub fn as_words(n: u128) -> State
 }
 
 // The state with `bits` xored in from bit `from` upward.
-pub fn put(state: State, bits: u32, from: u32) -> State
+pub(crate) fn put(state: State, bits: u32, from: u32) -> State
     requires fits { ⌜ bits * 2 ^ from < 2 ^ 128 ⌝ }
     requires within { ⌜ from < 128 ⌝ }
     ensures state { λ r. ⌜ joined r ≡ bitXor (joined state) (bits * 2 ^ from) ⌝ }
@@ -40,14 +40,14 @@ pub fn put(state: State, bits: u32, from: u32) -> State
 }
 
 // The word in s64 to s95.
-pub fn stream_word(state: State) -> u32
+pub(crate) fn stream_word(state: State) -> u32
     ensures { λ r. ⌜ r ≡ stream (joined state) ⌝ }
 {
     ((as_number(state) >> 64) % (1 << 32)) as u32
 }
 
 // Puts the frame bits into s36 to s38, and does a short run.
-pub fn short_run<E: Engine>(engine: &mut E, state: State, bits: u32) -> State
+pub(crate) fn short_run<E: Engine>(engine: &mut E, state: State, bits: u32) -> State
     requires { ⌜ bits < 8 ⌝ }
     ensures state { λ r. ⌜ joined r ≡ short (E·Engine .key (now (engine .entry))) (frame bits (joined state)) ⌝ }
     ensures same { λ _. ⌜ E·Engine .key (now (engine .exit)) ≡ E·Engine .key (now (engine .entry)) ⌝ }
@@ -56,7 +56,7 @@ pub fn short_run<E: Engine>(engine: &mut E, state: State, bits: u32) -> State
 }
 
 // Puts the frame bits into s36 to s38, and does a long run.
-pub fn long_run<E: Engine>(engine: &mut E, state: State, bits: u32) -> State
+pub(crate) fn long_run<E: Engine>(engine: &mut E, state: State, bits: u32) -> State
     requires { ⌜ bits < 8 ⌝ }
     ensures state { λ r. ⌜ joined r ≡ long (E·Engine .key (now (engine .entry))) (frame bits (joined state)) ⌝ }
     ensures same { λ _. ⌜ E·Engine .key (now (engine .exit)) ≡ E·Engine .key (now (engine .entry)) ⌝ }

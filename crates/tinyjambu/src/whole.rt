@@ -33,7 +33,13 @@ fn nonce_words(nonce: &[u8]) -> Option<[u32; 3]>
 }
 
 // Seals a text with its associated data: writes the sealed form at the start of `out`, and answers its length.
-pub fn seal<E: Engine>(engine: &mut E, nonce: &[u8], ad: &[u8], text: &[u8], out: &mut [u8]) -> Result<usize, Fault>
+pub fn seal<E: Engine>(
+    engine: &mut E,
+    nonce: &[u8],
+    ad: &[u8],
+    text: &[u8],
+    out: &mut [u8],
+) -> Result<usize, Fault>
     ensures answer { λ r. ⌜ r ≡ seal-answer (seal-check (length (now (nonce .entry))) (length (now (ad .entry))) (length (now (text .entry))) (length (now (out .entry)))) (length (now (text .entry))) ⌝ }
     ensures out { λ _. ⌜ now (out .exit) ≡ seal-out (seal-check (length (now (nonce .entry))) (length (now (ad .entry))) (length (now (text .entry))) (length (now (out .entry)))) (seal (E·Engine .key (now (engine .entry))) (now (nonce .entry)) (now (ad .entry)) (now (text .entry))) (now (out .entry)) ⌝ }
     ensures same { λ _. ⌜ E·Engine .key (now (engine .exit)) ≡ E·Engine .key (now (engine .entry)) ⌝ }
@@ -58,7 +64,13 @@ fn same_tag(made: [u8; 8], given: &[u8]) -> bool
 }
 
 // Recovers the text of sealed bytes into `out`, which is as long as the text, and says whether the tag is right.
-fn recover<E: Engine>(engine: &mut E, nonce: [u32; 3], ad: &[u8], sealed: &[u8], out: &mut [u8]) -> bool
+fn recover<E: Engine>(
+    engine: &mut E,
+    nonce: [u32; 3],
+    ad: &[u8],
+    sealed: &[u8],
+    out: &mut [u8],
+) -> bool
     requires { ⌜ length (now out) + 8 ≡ length (now sealed) ⌝ }
     ensures text { λ r. ⌜ opened (E·Engine .key (now (engine .entry))) (word-bytes nonce) (now (ad .entry)) (now (sealed .entry)) ≡ cond r (Some (now (out .exit))) None ⌝ }
     ensures same { λ _. ⌜ E·Engine .key (now (engine .exit)) ≡ E·Engine .key (now (engine .entry)) ⌝ }
@@ -72,7 +84,13 @@ fn recover<E: Engine>(engine: &mut E, nonce: [u32; 3], ad: &[u8], sealed: &[u8],
 }
 
 // Opens sealed bytes: writes the text that seals to them at the start of `out`, and answers its length. A refusal leaves only zeros in `out`.
-pub fn open<E: Engine>(engine: &mut E, nonce: &[u8], ad: &[u8], sealed: &[u8], out: &mut [u8]) -> Result<usize, Fault>
+pub fn open<E: Engine>(
+    engine: &mut E,
+    nonce: &[u8],
+    ad: &[u8],
+    sealed: &[u8],
+    out: &mut [u8],
+) -> Result<usize, Fault>
     ensures answer { λ r. ⌜ r ≡ open-answer (open-check (length (now (nonce .entry))) (length (now (ad .entry))) (length (now (sealed .entry))) (length (now (out .entry)))) (opened (E·Engine .key (now (engine .entry))) (now (nonce .entry)) (now (ad .entry)) (now (sealed .entry))) ⌝ }
     ensures out { λ _. ⌜ now (out .exit) ≡ open-out (open-check (length (now (nonce .entry))) (length (now (ad .entry))) (length (now (sealed .entry))) (length (now (out .entry)))) (opened (E·Engine .key (now (engine .entry))) (now (nonce .entry)) (now (ad .entry)) (now (sealed .entry))) (now (out .entry)) ⌝ }
     ensures exact { λ r. ⌜ ((open-check (length (now (nonce .entry))) (length (now (ad .entry))) (length (now (sealed .entry))) (length (now (out .entry)))) ≡ None → Exact (E·Engine .key (now (engine .entry))) (now (nonce .entry)) (now (ad .entry)) (now (sealed .entry)) r (now (out .exit))) ⌝ }

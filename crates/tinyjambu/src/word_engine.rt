@@ -83,6 +83,7 @@ fn mix(a: u32, b: u32, c: u32, d: u32, k: u32) -> u32
 
 pub impl Engine for WordEngine as WordEngineRuns {
     ghost key = { λ s. key-of (flipped (s .words)) (s .used) };
+
     ghost sized = { λ s. key-of-sized (flipped (s .words)) (s .used) (s .least) (s .most) (s .even) (flipped-stored (s .words) (s .used) (s .stored)) };
 
     fn short_run(&mut self, state: [u32; 4]) -> [u32; 4] {

@@ -21,10 +21,11 @@ loop-piece-again g c =
     let d = c .loop-piece .duplex in
     let e = c .absorb .last .self in
     let took : (k : List ℕ) → g .E·Engine .key (c .loop-piece .engine) ≡ k → (nonce ad : List ℕ) → Took-data k nonce ad (joined (d .state)) (d .filled)
-        → Took-data k nonce (ad ++ now (getD ps i nothing)) (joined (e .state)) (e .filled)
-    = λ k same. rw same at (c .absorb .ensures .took) in
-    (λ nonce ad h. data-piece key nonce ad ps i _ _ (c .loop-piece-test .taken) (took key same nonce (ad ++ message (take i ps)) (c .loop-piece .inv .0 nonce ad h)),
-    c .absorb .ensures .same ∙ same)
+    → Took-data k nonce (ad ++ now (getD ps i nothing)) (joined (e .state)) (e .filled)
+    = λ k same. rw same at (c .absorb .ensures .took) in (
+      λ nonce ad h. data-piece key nonce ad ps i _ _ (c .loop-piece-test .taken) (took key same nonce (ad ++ message (take i ps)) (c .loop-piece .inv .0 nonce ad h)),
+      c .absorb .ensures .same ∙ same,
+    )
 
 pub returns : need.returns
 returns g c =

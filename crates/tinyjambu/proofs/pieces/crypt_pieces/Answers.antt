@@ -40,15 +40,16 @@ loop-piece-again g c =
     let d = c .loop-piece .duplex in
     let e = c .crypt .last .self in
     let took : (k : List ℕ) → g .E·Engine .key (c .loop-piece .engine) ≡ k → (nonce ad t : List ℕ) → Took-text k nonce ad t (joined (d .state)) (d .filled)
-        → Took-text k nonce ad (t ++ p) (joined (e .state)) (e .filled) = λ k same. rw same at (c .crypt .ensures .took) in
+    → Took-text k nonce ad (t ++ p) (joined (e .state)) (e .filled) = λ k same. rw same at (c .crypt .ensures .took) in
     let made : (k : List ℕ) → g .E·Engine .key (c .loop-piece .engine) ≡ k → (nonce ad t : List ℕ) → Took-text k nonce ad t (joined (d .state)) (d .filled)
-        → part ≡ sealed-piece k nonce ad t p = λ k same. rw same at (c .crypt .ensures .out) in
-    (ap (λ n. n + length p) (inv .0) ∙ sym (length-append (message (take i ps)) p) ∙ ap length (sym (message-more ps i (c .loop-piece-test .taken))),
-    λ nonce ad h.
-    let before = inv .1 nonce ad h in
-    let t : List ℕ = message (take i ps) in
-    text-piece key nonce ad ps i at _ _ _ _ out part (c .loop-piece-test .taken) (inv .0) (omega arith) (before .0) (took key same nonce ad t (before .0)) (before .1) (made key same nonce ad t (before .0)) (c .crypt .ensures .len),
-    c .crypt .ensures .same ∙ same)
+    → part ≡ sealed-piece k nonce ad t p = λ k same. rw same at (c .crypt .ensures .out) in (
+      ap (λ n. n + length p) (inv .0) ∙ sym (length-append (message (take i ps)) p) ∙ ap length (sym (message-more ps i (c .loop-piece-test .taken))),
+      λ nonce ad h.
+          let before = inv .1 nonce ad h in
+          let t : List ℕ = message (take i ps) in
+          text-piece key nonce ad ps i at _ _ _ _ out part (c .loop-piece-test .taken) (inv .0) (omega arith) (before .0) (took key same nonce ad t (before .0)) (before .1) (made key same nonce ad t (before .0)) (c .crypt .ensures .len),
+      c .crypt .ensures .same ∙ same,
+    )
 
 pub returns : need.returns
 returns g c =
@@ -59,5 +60,5 @@ returns g c =
     record {
       took = λ nonce ad h. rw all at (inv .1 nonce ad h .0);
       out = λ nonce ad h. sym (take-all (c .loop-piece .at) (c .loop-piece .out) n) ∙ rw all at (inv .1 nonce ad h .1);
-      same = inv .2
+      same = inv .2;
     }

@@ -50,5 +50,5 @@ returns g c =
       out = written-tag (c .crypt-pieces .last .out) (c .copy-from-slice .last .self) out (c .joined-len-len .result) (ap length text ∙ length-sealed-text key n ad t ∙ sym (q .1)) (ap length tag ∙ length-sealed-tag key n ad t)
           ∙ ap (λ x. written x out) whole ∙ sym (ap (λ k. seal-out k (seal key n ad t) out) check);
       same = c .tag-tag .ensures .same ∙ k₃;
-      refused = λ e. absurd (true≢false e)
+      refused = λ e. absurd (true≢false e);
     }

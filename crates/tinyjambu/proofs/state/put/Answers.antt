@@ -15,5 +15,5 @@ returns c =
     let e : joined (c .as-words .result) ≡ bitXor s x = ap joined (c .as-words .ensures ∙ ap (λ y. words 4 (bitXor s y)) b) ∙ joined-words 4 (bitXor s x) (xor-lt 128 s x (c .as-number .ok) (c .pre .fits)) in
     record {
       state = e ∙ ap (λ y. bitXor y x) (c .as-number .ensures);
-      below = rw e (xor-lt 128 s x (c .as-number .ok) (c .pre .fits))
+      below = rw e (xor-lt 128 s x (c .as-number .ok) (c .pre .fits));
     }

@@ -44,5 +44,5 @@ returns g c =
     = c .same-tag .ensures ∙ ap₂ same (tags n ad t (takes n ad [] took)) end in
     record {
       text = recovered key n ad t s (ap (λ k. k + 8) m ∙ e) body ∙ ap (λ b. cond b (Some t) None) (sym is);
-      same = c .tag .ensures .same ∙ k₃
+      same = c .tag .ensures .same ∙ k₃;
     }

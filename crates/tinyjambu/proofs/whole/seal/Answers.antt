@@ -26,5 +26,5 @@ returns g c =
       answer = c .seal-pieces .ensures .answer ∙ ap₂ (λ x y. seal-answer x (length y)) check (append-nil t);
       out = c .seal-pieces .ensures .out ∙ ap₂ (λ x y. seal-out x y out) check message;
       same = c .seal-pieces .ensures .same;
-      refused = c .seal-pieces .ensures .refused
+      refused = c .seal-pieces .ensures .refused;
     }

@@ -12,5 +12,5 @@ returns c =
     let k = c .args .self .now .key in
     record {
       result = c .run .ensures ∙ ap (λ n. words 4 (rounds (key-of (k .words) (k .used)) n (joined (c .args .state)))) (ap (λ u. 768 + 64 * u) (c .used .ensures) ∙ long-by-words (k .words) (k .used) (k .stored));
-      same = refl
+      same = refl;
     }

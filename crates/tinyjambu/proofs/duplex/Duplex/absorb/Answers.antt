@@ -20,18 +20,20 @@ pub loop-at-again-then-piece-at-ge4 : need.loop-at-again-then-piece-at-ge4
 loop-at-again-then-piece-at-ge4 g c =
     let d = c .loop-at .self in
     let e = c .absorb-word .ensures in
-    let l : c .loop-at .at + 4 ≤ length (c .args .piece .now) = omega arith in
-    (fed-word-more (c .loop-at .inv .0) _ _ (all-bytes (c .args .piece .now) (c .typed .piece)) l (c .if-self-eq0 .taken)
-    (e .state ∙ ap₂ (λ k w. bitXor (data-run k (joined (d .state))) (w * 2 ^ 96)) (c .loop-at .inv .1) (c .load .ensures)) (e .filled),
-    e .same ∙ c .loop-at .inv .1)
+    let l : c .loop-at .at + 4 ≤ length (c .args .piece .now) = omega arith in (
+      fed-word-more (c .loop-at .inv .0) _ _ (all-bytes (c .args .piece .now) (c .typed .piece)) l (c .if-self-eq0 .taken)
+          (e .state ∙ ap₂ (λ k w. bitXor (data-run k (joined (d .state))) (w * 2 ^ 96)) (c .loop-at .inv .1) (c .load .ensures)) (e .filled),
+      e .same ∙ c .loop-at .inv .1,
+    )
 
 pub loop-at-again : need.loop-at-again
 loop-at-again g c =
     let d = c .loop-at .self in
-    let e = c .absorb-byte .ensures in
-    (fed-byte-more (c .loop-at .inv .0) _ _ (c .loop-at-test .taken)
-    (e .state ∙ ap (λ k. fed-byte (data-run k) (d .filled) (joined (d .state)) (getD (c .args .piece .now) (c .loop-at .at) 0)) (c .loop-at .inv .1)) (e .filled),
-    e .same ∙ c .loop-at .inv .1)
+    let e = c .absorb-byte .ensures in (
+      fed-byte-more (c .loop-at .inv .0) _ _ (c .loop-at-test .taken)
+          (e .state ∙ ap (λ k. fed-byte (data-run k) (d .filled) (joined (d .state)) (getD (c .args .piece .now) (c .loop-at .at) 0)) (c .loop-at .inv .1)) (e .filled),
+      e .same ∙ c .loop-at .inv .1,
+    )
 
 pub returns : need.returns
 returns g c =
@@ -39,5 +41,5 @@ returns g c =
     let key = g .E·Engine .key (c .args .engine .now) in
     record {
       took = λ nonce ad h. data-more key nonce ad (c .args .piece .now) _ _ _ _ h (all-bytes (c .args .piece .now) (c .typed .piece)) (all .0) (all .1);
-      same = c .loop-at .inv .1
+      same = c .loop-at .inv .1;
     }

@@ -23,5 +23,5 @@ returns g c =
     let e₂ = c .nonce-step-two .ensures .state ∙ ap₂ (λ k s. nonce-word k (getD n 1 0) s) k₂ e₁ in
     let e₃ = c .nonce-step-state .ensures .state ∙ ap₂ (λ k s. nonce-word k (getD n 2 0) s) k₃ e₂ in
     let e = e₃ ∙ begun-words key (getD n 0 0) (getD n 1 0) (getD n 2 0) (c .element-fits .fits) (c .element-fits2 .fits) (c .element-fits3 .fits)
-        ∙ ap (λ ws. begun key (word-bytes ws)) (three n (omega arith)) in
+    ∙ ap (λ ws. begun key (word-bytes ws)) (three n (omega arith)) in
     record { took = data-none key (word-bytes n) _ 0 e refl; same = c .nonce-step-state .ensures .same ∙ k₃ }

@@ -23,11 +23,12 @@ loop-at-again-then-input-at-ge4 g c =
     let same = c .loop-at .inv .1 in
     let l : c .loop-at .at + 4 ≤ length (c .args .input .now) = omega arith in
     let r = c .crypt-word-other .result in
-    let d = c .args .direction in
-    (crypted-word-more (c .loop-at .inv .0) r _ _ _ (all-bytes (c .args .input .now) (c .typed .input)) l (c .crypt-word-other .ok) (c .if-self-eq0 .taken) (c .store .ensures)
-    (e .state ∙ ap₂ (λ k w. bitXor (text-run k s) (text-of d w r * 2 ^ 96)) same (c .load .ensures)) (e .filled)
-    (ap (λ w. sealed-of d w r) (sym (c .load .ensures)) ∙ e .result ∙ ap₂ (λ k w. bitXor (text-of d w r) (stream (text-run k s))) same (c .load .ensures)),
-    e .same ∙ same)
+    let d = c .args .direction in (
+      crypted-word-more (c .loop-at .inv .0) r _ _ _ (all-bytes (c .args .input .now) (c .typed .input)) l (c .crypt-word-other .ok) (c .if-self-eq0 .taken) (c .store .ensures)
+          (e .state ∙ ap₂ (λ k w. bitXor (text-run k s) (text-of d w r * 2 ^ 96)) same (c .load .ensures)) (e .filled)
+          (ap (λ w. sealed-of d w r) (sym (c .load .ensures)) ∙ e .result ∙ ap₂ (λ k w. bitXor (text-of d w r) (stream (text-run k s))) same (c .load .ensures)),
+      e .same ∙ same,
+    )
 
 pub loop-at-again : need.loop-at-again
 loop-at-again g c =
@@ -35,11 +36,12 @@ loop-at-again g c =
     let e = c .crypt-byte .ensures in
     let same = c .loop-at .inv .1 in
     let r = c .crypt-byte .result in
-    let x = getD (c .args .input .now) (c .loop-at .at) 0 in
-    (crypted-byte-more (c .loop-at .inv .0) r _ _ (c .loop-at-test .taken) (c .crypt-byte .ok)
-    (e .state ∙ ap (λ k. fed-byte (text-run k) (d .filled) (joined (d .state)) (text-of (c .args .direction) x r)) same) (e .filled)
-    (e .result ∙ ap (λ k. sealed-byte (text-run k) (d .filled) (joined (d .state)) (text-of (c .args .direction) x r)) same),
-    e .same ∙ same)
+    let x = getD (c .args .input .now) (c .loop-at .at) 0 in (
+      crypted-byte-more (c .loop-at .inv .0) r _ _ (c .loop-at-test .taken) (c .crypt-byte .ok)
+          (e .state ∙ ap (λ k. fed-byte (text-run k) (d .filled) (joined (d .state)) (text-of (c .args .direction) x r)) same) (e .filled)
+          (e .result ∙ ap (λ k. sealed-byte (text-run k) (d .filled) (joined (d .state)) (text-of (c .args .direction) x r)) same),
+      e .same ∙ same,
+    )
 
 pub returns : need.returns
 returns g c =
@@ -52,5 +54,5 @@ returns g c =
       took = λ nonce ad t h. text-more key nonce ad t text _ _ _ _ h small (all .1) (all .2 ∙ ap (λ x. (c .args .self .now .filled + x) % 4) (sym n));
       out = λ nonce ad t h. all .0 ∙ sealed-part key nonce ad t text _ _ h small;
       len = c .loop-at .inv .0 .long;
-      same = c .loop-at .inv .1
+      same = c .loop-at .inv .1;
     }

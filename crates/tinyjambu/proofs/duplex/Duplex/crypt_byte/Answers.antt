@@ -18,5 +18,5 @@ returns g c =
       state = c .put-byte .ensures .state ∙ ap₂ (λ b f. bitXor (joined (c .enter .last .self .state)) (b * 2 ^ (96 + 8 * f))) (c .text .ensures) (e .filled)
           ∙ ap (λ s. bitXor s (t * 2 ^ (96 + 8 * c .args .self .now .filled))) (e .state);
       filled = c .put-byte .ensures .filled ∙ ap (λ f. (f + 1) % 4) (e .filled);
-      same = e .same
+      same = e .same;
     }

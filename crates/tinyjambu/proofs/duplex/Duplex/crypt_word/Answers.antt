@@ -16,5 +16,5 @@ returns g c =
       result = either-way (c .args .direction) (c .args .word) k ∙ ap (bitXor t) (c .stream-word .ensures ∙ ap stream (e .state));
       state = c .put-self .ensures .state ∙ ap₂ (λ s w. bitXor s (w * 2 ^ 96)) (e .state) (c .text .ensures);
       filled = c .pre;
-      same = e .same
+      same = e .same;
     }

@@ -8,5 +8,5 @@ returns g c =
     let key = g .E·Engine .key (c .args .engine .now) in
     record {
       result = λ nonce ad t h. c .tag-words .ensures .result ∙ ap (tag key) (c .close .ensures .state) ∙ tag-part key nonce ad t _ _ h;
-      same = c .tag-words .ensures .same
+      same = c .tag-words .ensures .same;
     }

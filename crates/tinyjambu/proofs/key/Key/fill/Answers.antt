@@ -12,9 +12,10 @@ use Rattle.tinyjambu.proofs.key.Key.fill.Needs as need
 
 pub loop-i-again : need.loop-i-again
 loop-i-again c =
-    let size = key-size-true (length (c .args .bytes .now)) (sym (c .if-not-is-key-size .ensures tt)) in
-    (length-set (c .loop-i .words) (c .loop-i .i) (c .load .result) ∙ c .loop-i .inv .0,
-    rw (c .load .ensures) (filled-more (c .loop-i .words) (c .args .bytes .now) (c .loop-i .i) (all-bytes (c .args .bytes .now) (c .typed .bytes)) (omega arith) (omega arith) (c .loop-i .inv .1)))
+    let size = key-size-true (length (c .args .bytes .now)) (sym (c .if-not-is-key-size .ensures tt)) in (
+      length-set (c .loop-i .words) (c .loop-i .i) (c .load .result) ∙ c .loop-i .inv .0,
+      rw (c .load .ensures) (filled-more (c .loop-i .words) (c .args .bytes .now) (c .loop-i .i) (all-bytes (c .args .bytes .now) (c .typed .bytes)) (omega arith) (omega arith) (c .loop-i .inv .1)),
+    )
 
 pub returns : need.returns
 returns c =
@@ -24,5 +25,5 @@ returns c =
     record {
       answer = sym (cond-true _ _ _ is);
       after = ap (key-of (c .loop-i .words)) n ∙ c .loop-i .inv .1 ∙ take-all (4 * c .loop-i .i) (c .args .bytes .now) (omega arith) ∙ sym (cond-true _ _ _ is);
-      refused = λ e. absurd (true≢false e)
+      refused = λ e. absurd (true≢false e);
     }

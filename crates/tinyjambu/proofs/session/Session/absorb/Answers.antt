@@ -15,8 +15,8 @@ returns g c =
       answer = sym (cond-false _ _ _ (sym (c .if-too-long .ensures tt)));
       extends = λ _ nonce ad h. record {
         took = rw (c .absorb .ensures .same) (c .absorb .ensures .took nonce ad (h .took));
-        counted = ap (λ n. n + length p) (h .counted) ∙ sym (length-append ad p)
+        counted = ap (λ n. n + length p) (h .counted) ∙ sym (length-append ad p);
       };
       same = c .absorb .ensures .same;
-      refused = λ e. absurd (true≢false e)
+      refused = λ e. absurd (true≢false e);
     }

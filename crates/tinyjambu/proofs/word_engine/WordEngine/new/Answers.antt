@@ -7,9 +7,10 @@ use Rattle.tinyjambu.proofs.Turns.{flipped-more}
 use Rattle.tinyjambu.proofs.word_engine.WordEngine.new.Needs as need
 
 pub loop-i-again : need.loop-i-again
-loop-i-again c =
-    (length-set (c .loop-i .words) (c .loop-i .i) (flip (c .word .result)) ∙ c .loop-i .inv .0,
-    flipped-more (c .loop-i .words) (c .args .key .words) (c .loop-i .i) (c .word .result) (omega arith) (omega arith) (c .word .ensures) (c .word .ok) (c .loop-i .inv .1))
+loop-i-again c = (
+  length-set (c .loop-i .words) (c .loop-i .i) (flip (c .word .result)) ∙ c .loop-i .inv .0,
+  flipped-more (c .loop-i .words) (c .args .key .words) (c .loop-i .i) (c .word .result) (omega arith) (omega arith) (c .word .ensures) (c .word .ok) (c .loop-i .inv .1),
+)
 
 pub ghost-result : need.ghost-result
 ghost-result c = (omega arith, (omega arith, (omega arith, (omega arith, tt))))

@@ -14,5 +14,5 @@ returns c =
     let n : 128 * (6 + e .used / 2) ≡ 768 + 64 * e .used = omega arith in
     record {
       result = c .run .ensures ∙ ap (λ k. words 4 (rounds (key-of (flipped (e .words)) (e .used)) k (joined (c .args .state)))) (n ∙ long-by-words (flipped (e .words)) (e .used) (flipped-stored (e .words) (e .used) (e .stored)));
-      same = refl
+      same = refl;
     }
