@@ -1,11 +1,8 @@
 // The calls for a C host, on byte slices: each passes as a pointer and a length. A C header documents them, include/vurshade.h.
 ghost use mathlib.Core.Path.{_≡_};
 ghost use Prim.Native.Nat.{_^_, _<_};
-ghost use lib.ListN.{length};
 ghost use Rattle.std.specs.Vec.{made};
-ghost use Rattle.tinyjambu.specs.Answers.{seal-check, seal-answer, seal-out, open-check, open-answer, open-out};
-ghost use Rattle.tinyjambu.specs.Mode.{seal, opened};
-ghost use Rattle.host.specs.Host.{signed, host-check};
+ghost use Rattle.host.specs.Host.{signed, host-seal-answer, host-seal-out, host-open-answer, host-open-out};
 use tinyjambu::Fault;
 use tinyjambu::Key;
 use tinyjambu::Wipe;
@@ -31,8 +28,8 @@ fn seal_under(
     text: &[u8],
     out: &mut [u8],
 ) -> Result<usize, Fault>
-    ensures answer { λ r. ⌜ r ≡ seal-answer (host-check (now (key .entry)) (seal-check (length (now (nonce .entry))) (length (now (ad .entry))) (length (now (text .entry))) (length (now (out .entry))))) (length (now (text .entry))) ⌝ }
-    ensures out { λ _. ⌜ now (out .exit) ≡ seal-out (host-check (now (key .entry)) (seal-check (length (now (nonce .entry))) (length (now (ad .entry))) (length (now (text .entry))) (length (now (out .entry))))) (seal (now (key .entry)) (now (nonce .entry)) (now (ad .entry)) (now (text .entry))) (now (out .entry)) ⌝ }
+    ensures answer { λ r. ⌜ r ≡ host-seal-answer (now (key .entry)) (now (nonce .entry)) (now (ad .entry)) (now (text .entry)) (now (out .entry)) ⌝ }
+    ensures out { λ _. ⌜ now (out .exit) ≡ host-seal-out (now (key .entry)) (now (nonce .entry)) (now (ad .entry)) (now (text .entry)) (now (out .entry)) ⌝ }
 {
     let mut filled = Key::new();
     filled.fill(key)?;
@@ -48,8 +45,8 @@ fn open_under(
     sealed: &[u8],
     out: &mut [u8],
 ) -> Result<usize, Fault>
-    ensures answer { λ r. ⌜ r ≡ open-answer (host-check (now (key .entry)) (open-check (length (now (nonce .entry))) (length (now (ad .entry))) (length (now (sealed .entry))) (length (now (out .entry))))) (opened (now (key .entry)) (now (nonce .entry)) (now (ad .entry)) (now (sealed .entry))) ⌝ }
-    ensures out { λ _. ⌜ now (out .exit) ≡ open-out (host-check (now (key .entry)) (open-check (length (now (nonce .entry))) (length (now (ad .entry))) (length (now (sealed .entry))) (length (now (out .entry))))) (opened (now (key .entry)) (now (nonce .entry)) (now (ad .entry)) (now (sealed .entry))) (now (out .entry)) ⌝ }
+    ensures answer { λ r. ⌜ r ≡ host-open-answer (now (key .entry)) (now (nonce .entry)) (now (ad .entry)) (now (sealed .entry)) (now (out .entry)) ⌝ }
+    ensures out { λ _. ⌜ now (out .exit) ≡ host-open-out (now (key .entry)) (now (nonce .entry)) (now (ad .entry)) (now (sealed .entry)) (now (out .entry)) ⌝ }
 {
     let mut guard = Wipe { out, kept: false };
     let mut filled = Key::new();
@@ -69,8 +66,8 @@ pub extern "C" fn vurshade_seal(
     text: &[u8],
     out: &mut [u8],
 ) -> i64
-    ensures answer { λ r. ⌜ r ≡ signed (seal-answer (host-check (now (key .entry)) (seal-check (length (now (nonce .entry))) (length (now (ad .entry))) (length (now (text .entry))) (length (now (out .entry))))) (length (now (text .entry)))) ⌝ }
-    ensures out { λ _. ⌜ now (out .exit) ≡ seal-out (host-check (now (key .entry)) (seal-check (length (now (nonce .entry))) (length (now (ad .entry))) (length (now (text .entry))) (length (now (out .entry))))) (seal (now (key .entry)) (now (nonce .entry)) (now (ad .entry)) (now (text .entry))) (now (out .entry)) ⌝ }
+    ensures answer { λ r. ⌜ r ≡ signed (host-seal-answer (now (key .entry)) (now (nonce .entry)) (now (ad .entry)) (now (text .entry)) (now (out .entry))) ⌝ }
+    ensures out { λ _. ⌜ now (out .exit) ≡ host-seal-out (now (key .entry)) (now (nonce .entry)) (now (ad .entry)) (now (text .entry)) (now (out .entry)) ⌝ }
 {
     as_signed(seal_under(key, nonce, ad, text, out))
 }
@@ -84,8 +81,8 @@ pub extern "C" fn vurshade_open(
     sealed: &[u8],
     out: &mut [u8],
 ) -> i64
-    ensures answer { λ r. ⌜ r ≡ signed (open-answer (host-check (now (key .entry)) (open-check (length (now (nonce .entry))) (length (now (ad .entry))) (length (now (sealed .entry))) (length (now (out .entry))))) (opened (now (key .entry)) (now (nonce .entry)) (now (ad .entry)) (now (sealed .entry)))) ⌝ }
-    ensures out { λ _. ⌜ now (out .exit) ≡ open-out (host-check (now (key .entry)) (open-check (length (now (nonce .entry))) (length (now (ad .entry))) (length (now (sealed .entry))) (length (now (out .entry))))) (opened (now (key .entry)) (now (nonce .entry)) (now (ad .entry)) (now (sealed .entry))) (now (out .entry)) ⌝ }
+    ensures answer { λ r. ⌜ r ≡ signed (host-open-answer (now (key .entry)) (now (nonce .entry)) (now (ad .entry)) (now (sealed .entry)) (now (out .entry))) ⌝ }
+    ensures out { λ _. ⌜ now (out .exit) ≡ host-open-out (now (key .entry)) (now (nonce .entry)) (now (ad .entry)) (now (sealed .entry)) (now (out .entry)) ⌝ }
 {
     as_signed(open_under(key, nonce, ad, sealed, out))
 }

@@ -14,7 +14,7 @@ use Rattle.std.proofs.shelf.Equals.{compares-decides}
 use Rattle.std.proofs.shelf.Tests.{and-parts, le-leb}
 use Rattle.std.proofs.shelf.Lists.{length-append, take-append-drop, take-at, drop-at}
 use Rattle.tinyjambu.specs.Mode.{text-run, stream, mark, inject, plain-block, xored, blocks, ciphertext, text-state, plaintext, plain-state, tag, same, seal, opened, begun, absorbed}
-use Rattle.tinyjambu.specs.Laws.{Opens-exactly}
+use Rattle.tinyjambu.specs.Laws.{Opened-exactly}
 use Rattle.tinyjambu.proofs.Walk.{flat, walked, ended, xored-undone, length-xored, text-back, state-back}
 
 module _ (key : List ℕ) where
@@ -99,6 +99,6 @@ module _ (key : List ℕ) (s : ℕ) where
       let p = ends (ciphertext key s (blocks t)) made c e refl in
       rw (p .1, p .2, opened-text, opened-state, le-leb 8 (length c) (p .0), same-decides made made .1 refl)
 
-pub opens-exactly : Opens-exactly
+pub opens-exactly : Opened-exactly
 unfolding seal opened
 opens-exactly key n ad c t = (seals key (absorbed key (begun key n) (blocks ad)) c t, opens key (absorbed key (begun key n) (blocks ad)) c t)

@@ -16,7 +16,7 @@ use Rattle.std.proofs.shelf.Lists.{take-at, drop-at, take-all, drop-drop, lengt
 use Rattle.tinyjambu.specs.declared.fault.Fault.{Fault}
 use Rattle.tinyjambu.specs.declared.refusal.Refusal.{Refusal}
 use Rattle.tinyjambu.specs.declared.refusal.Refusal.the-variants.{NonceLength, DataTooLong, TextTooLong, Broken}
-use Rattle.tinyjambu.specs.Answers.{longest, written, open-check, open-answer, open-out, opened-answer, opened-out}
+use Rattle.tinyjambu.specs.Answers.{longest, written, open-check, opened-answer, opened-out, text-answer-of, text-out-of}
 use Rattle.tinyjambu.specs.Bytes.{number, bytes, word-bytes, All-bytes}
 use Rattle.tinyjambu.specs.History.{sealed-piece, sealed-tag}
 use Rattle.tinyjambu.specs.Laws.{Exact}
@@ -61,7 +61,7 @@ module _ (key n ad : List ℕ) where
       ∙ ap (λ x. cond (same (sealed-tag key n ad t) (drop (length t) c)) (Some x) None) text
 
   -- an opening by the definition is exact
-  pub exact-by : (c : List ℕ) (o : Option (List ℕ)) (out : List ℕ) → opened key n ad c ≡ o → Exact key n ad c (opened-answer o) (opened-out o out)
+  pub exact-by : (c : List ℕ) (o : Option (List ℕ)) (out : List ℕ) → opened key n ad c ≡ o → Exact key n ad c (text-answer-of o) (text-out-of o out)
   exact-by c None out e = record {
     gives = λ m f. let z : _≡_ {A = ℕ} 0 1 = cc in absurd (omega arith);
     finds = λ t f. let g = opens-exactly key n ad c t .1 f in let z : _≡_ {A = ℕ} 0 1 = cc in absurd (omega arith);
@@ -98,15 +98,15 @@ open-check-none n ad c room e f g h l =
 
 -- what an opening owes, once the checks have passed and it is known what there is to open
 pub record Opened (key n ad c out : List ℕ) (check : Option Refusal) (r : Result ℕ Fault) (after : List ℕ) : Type 0 where
-  pub answer : r ≡ open-answer check (opened key n ad c)
-  pub bytes : after ≡ open-out check (opened key n ad c) out
+  pub answer : r ≡ opened-answer check (opened key n ad c)
+  pub bytes : after ≡ opened-out check (opened key n ad c) out
   pub exact : Exact key n ad c r after
 
 pub opened-by : (key n ad c out : List ℕ) (check : Option Refusal) (o : Option (List ℕ)) (answer : Result ℕ Fault) (after : List ℕ)
-    → check ≡ None → opened key n ad c ≡ o → answer ≡ opened-answer o → after ≡ opened-out o out → Opened key n ad c out check answer after
+    → check ≡ None → opened key n ad c ≡ o → answer ≡ text-answer-of o → after ≡ text-out-of o out → Opened key n ad c out check answer after
 opened-by key n ad c out check o answer after e f g h = record {
-  answer = g ∙ sym (ap₂ open-answer e f);
-  bytes = h ∙ sym (ap₂ (λ x y. open-out x y out) e f);
+  answer = g ∙ sym (ap₂ opened-answer e f);
+  bytes = h ∙ sym (ap₂ (λ x y. opened-out x y out) e f);
   exact = rw (g, h) (exact-by key n ad c o out f);
 }
 

@@ -12,6 +12,7 @@ use Rattle.std.specs.declared.result.Result.the-variants.{Ok, Err}
 use Rattle.tinyjambu.specs.declared.fault.Fault.{Fault}
 use Rattle.tinyjambu.specs.declared.refusal.Refusal.{Refusal}
 use Rattle.tinyjambu.specs.declared.refusal.Refusal.the-variants.{NonceLength, DataTooLong, TextTooLong, SealedTooShort, OutTooShort, Broken}
+use Rattle.tinyjambu.specs.Mode.{seal, opened}
 use Rattle.tinyjambu.specs.Refusals.{outside}
 
 -- the most bytes of associated data, and of text
@@ -33,15 +34,6 @@ text-answer taken more room =
     (cond (ltb room more) (Err (outside OutTooShort))
     (Ok more))
 
--- a sealing that has passed the checks answers the length of the sealed form and writes it at the start; a refused one writes nothing
-abbrev pub seal-answer : Option Refusal → ℕ → Result ℕ Fault
-seal-answer (Some r) t = Err (outside r)
-seal-answer None t = Ok (t + 8)
-
-abbrev pub seal-out : Option Refusal → List ℕ → List ℕ → List ℕ
-seal-out (Some r) sealed out = out
-seal-out None sealed out = written sealed out
-
 -- what refuses the sealing of so many bytes of data and text into so much room
 abbrev pub message-check : ℕ → ℕ → ℕ → Option Refusal
 message-check ad t room =
@@ -54,6 +46,29 @@ message-check ad t room =
 abbrev pub seal-check : ℕ → ℕ → ℕ → ℕ → Option Refusal
 seal-check n ad t room = cond (eqb n 12) (message-check ad t room) (Some NonceLength)
 
+-- a sealing that no check refuses answers the length of the sealed form, and writes it at the start of the buffer; a refused one writes nothing
+abbrev pub sealed-answer : Option Refusal → ℕ → Result ℕ Fault
+sealed-answer (Some r) t = Err (outside r)
+sealed-answer None t = Ok (t + 8)
+
+abbrev pub sealed-out : Option Refusal → List ℕ → List ℕ → List ℕ
+sealed-out (Some r) sealed out = out
+sealed-out None sealed out = written sealed out
+
+-- sealing a message in pieces, of which ad and t are the joined data and text
+abbrev pub message-answer : List ℕ → List ℕ → List ℕ → Result ℕ Fault
+message-answer ad t out = sealed-answer (message-check (length ad) (length t) (length out)) (length t)
+
+abbrev pub message-out : List ℕ → List ℕ → List ℕ → List ℕ → List ℕ → List ℕ
+message-out key n ad t out = sealed-out (message-check (length ad) (length t) (length out)) (seal key n ad t) out
+
+-- whole sealing
+abbrev pub seal-answer : List ℕ → List ℕ → List ℕ → List ℕ → Result ℕ Fault
+seal-answer n ad t out = sealed-answer (seal-check (length n) (length ad) (length t) (length out)) (length t)
+
+abbrev pub seal-out : List ℕ → List ℕ → List ℕ → List ℕ → List ℕ → List ℕ
+seal-out key n ad t out = sealed-out (seal-check (length n) (length ad) (length t) (length out)) (seal key n ad t) out
+
 -- what refuses the opening of so many sealed bytes before the cipher is run
 abbrev pub open-check : ℕ → ℕ → ℕ → ℕ → Option Refusal
 open-check n ad c room =
@@ -65,19 +80,26 @@ open-check n ad c room =
     None))))
     (Some NonceLength)
 
--- an opening that has passed the checks answers the length of the text and writes it at the start; a refused one leaves only zeros
-abbrev pub opened-answer : Option (List ℕ) → Result ℕ Fault
-opened-answer None = Err (outside Broken)
-opened-answer (Some t) = Ok (length t)
+-- an opening that no check refuses answers the length of the text, and writes it at the start of the buffer; a refused one leaves only zeros
+abbrev pub text-answer-of : Option (List ℕ) → Result ℕ Fault
+text-answer-of None = Err (outside Broken)
+text-answer-of (Some t) = Ok (length t)
 
-abbrev pub opened-out : Option (List ℕ) → List ℕ → List ℕ
-opened-out None out = replicate (length out) 0
-opened-out (Some t) out = written t out
+abbrev pub text-out-of : Option (List ℕ) → List ℕ → List ℕ
+text-out-of None out = replicate (length out) 0
+text-out-of (Some t) out = written t out
 
-abbrev pub open-answer : Option Refusal → Option (List ℕ) → Result ℕ Fault
-open-answer (Some r) text = Err (outside r)
-open-answer None text = opened-answer text
+abbrev pub opened-answer : Option Refusal → Option (List ℕ) → Result ℕ Fault
+opened-answer (Some r) text = Err (outside r)
+opened-answer None text = text-answer-of text
 
-abbrev pub open-out : Option Refusal → Option (List ℕ) → List ℕ → List ℕ
-open-out (Some r) text out = replicate (length out) 0
-open-out None text out = opened-out text out
+abbrev pub opened-out : Option Refusal → Option (List ℕ) → List ℕ → List ℕ
+opened-out (Some r) text out = replicate (length out) 0
+opened-out None text out = text-out-of text out
+
+-- whole opening
+abbrev pub open-answer : List ℕ → List ℕ → List ℕ → List ℕ → List ℕ → Result ℕ Fault
+open-answer key n ad c out = opened-answer (open-check (length n) (length ad) (length c) (length out)) (opened key n ad c)
+
+abbrev pub open-out : List ℕ → List ℕ → List ℕ → List ℕ → List ℕ → List ℕ
+open-out key n ad c out = opened-out (open-check (length n) (length ad) (length c) (length out)) (opened key n ad c) out

@@ -28,8 +28,8 @@ pub struct Duplex {
 
 // One word of the nonce.
 fn nonce_step<E: Engine>(engine: &mut E, state: State, word: u32) -> State
-    ensures state { λ r. ⌜ joined r ≡ nonce-word (E·Engine .key (now (engine .entry))) word (joined state) ⌝ }
-    ensures same { λ _. ⌜ E·Engine .key (now (engine .exit)) ≡ E·Engine .key (now (engine .entry)) ⌝ }
+    ensures state { λ r. ⌜ joined r ≡ nonce-word (key (now (engine .entry))) word (joined state) ⌝ }
+    ensures same { λ _. ⌜ key (now (engine .exit)) ≡ key (now (engine .entry)) ⌝ }
 {
     put(short_run(engine, state, 1), word, 96)
 }
@@ -37,8 +37,8 @@ fn nonce_step<E: Engine>(engine: &mut E, state: State, word: u32) -> State
 impl Duplex {
     // Takes the key and the nonce.
     pub(crate) fn begin<E: Engine>(engine: &mut E, nonce: [u32; 3]) -> Duplex
-        ensures took { λ r. ⌜ Took-data (E·Engine .key (now (engine .entry))) (word-bytes nonce) [] (joined (r .state)) (r .filled) ⌝ }
-        ensures same { λ _. ⌜ E·Engine .key (now (engine .exit)) ≡ E·Engine .key (now (engine .entry)) ⌝ }
+        ensures took { λ r. ⌜ Took-data (key (now (engine .entry))) (word-bytes nonce) [] (joined (r .state)) (r .filled) ⌝ }
+        ensures same { λ _. ⌜ key (now (engine .exit)) ≡ key (now (engine .entry)) ⌝ }
     {
         let [first, second, third] = nonce;
         let begun = engine.long_run([0; 4]);
@@ -50,9 +50,9 @@ impl Duplex {
 
     // Does the run of a block whose first byte comes now.
     fn enter<E: Engine>(&mut self, engine: &mut E, phase: Phase)
-        ensures state { λ _. ⌜ joined (now (self .exit) .state) ≡ entered (phase-run phase (E·Engine .key (now (engine .entry)))) (now (self .entry) .filled) (joined (now (self .entry) .state)) ⌝ }
+        ensures state { λ _. ⌜ joined (now (self .exit) .state) ≡ entered (phase-run phase (key (now (engine .entry)))) (now (self .entry) .filled) (joined (now (self .entry) .state)) ⌝ }
         ensures filled { λ _. ⌜ now (self .exit) .filled ≡ now (self .entry) .filled ⌝ }
-        ensures same { λ _. ⌜ E·Engine .key (now (engine .exit)) ≡ E·Engine .key (now (engine .entry)) ⌝ }
+        ensures same { λ _. ⌜ key (now (engine .exit)) ≡ key (now (engine .entry)) ⌝ }
     {
         if self.filled == 0 {
             self.state = match phase {
@@ -91,9 +91,9 @@ impl Duplex {
 
     // Takes one byte of associated data.
     fn absorb_byte<E: Engine>(&mut self, engine: &mut E, byte: u8)
-        ensures state { λ _. ⌜ joined (now (self .exit) .state) ≡ fed-byte (data-run (E·Engine .key (now (engine .entry)))) (now (self .entry) .filled) (joined (now (self .entry) .state)) byte ⌝ }
+        ensures state { λ _. ⌜ joined (now (self .exit) .state) ≡ fed-byte (data-run (key (now (engine .entry)))) (now (self .entry) .filled) (joined (now (self .entry) .state)) byte ⌝ }
         ensures filled { λ _. ⌜ now (self .exit) .filled ≡ (now (self .entry) .filled + 1) % 4 ⌝ }
-        ensures same { λ _. ⌜ E·Engine .key (now (engine .exit)) ≡ E·Engine .key (now (engine .entry)) ⌝ }
+        ensures same { λ _. ⌜ key (now (engine .exit)) ≡ key (now (engine .entry)) ⌝ }
     {
         self.enter(engine, Phase::Data);
         self.put_byte(byte);
@@ -102,17 +102,17 @@ impl Duplex {
     // Takes a full block of associated data, where no block is open.
     fn absorb_word<E: Engine>(&mut self, engine: &mut E, word: u32)
         requires { ⌜ now self .filled ≡ 0 ⌝ }
-        ensures state { λ _. ⌜ joined (now (self .exit) .state) ≡ bitXor (data-run (E·Engine .key (now (engine .entry))) (joined (now (self .entry) .state))) (word * 2 ^ 96) ⌝ }
+        ensures state { λ _. ⌜ joined (now (self .exit) .state) ≡ bitXor (data-run (key (now (engine .entry))) (joined (now (self .entry) .state))) (word * 2 ^ 96) ⌝ }
         ensures filled { λ _. ⌜ now (self .exit) .filled ≡ 0 ⌝ }
-        ensures same { λ _. ⌜ E·Engine .key (now (engine .exit)) ≡ E·Engine .key (now (engine .entry)) ⌝ }
+        ensures same { λ _. ⌜ key (now (engine .exit)) ≡ key (now (engine .entry)) ⌝ }
     {
         self.state = put(short_run(engine, self.state, 3), word, 96);
     }
 
     // Takes a piece of associated data.
     pub(crate) fn absorb<E: Engine>(&mut self, engine: &mut E, piece: &[u8])
-        ensures took { λ _. ⌜ ((nonce ad : List ℕ) → Took-data (E·Engine .key (now (engine .entry))) nonce ad (joined (now (self .entry) .state)) (now (self .entry) .filled) → Took-data (E·Engine .key (now (engine .entry))) nonce (ad ++ now (piece .entry)) (joined (now (self .exit) .state)) (now (self .exit) .filled)) ⌝ }
-        ensures same { λ _. ⌜ E·Engine .key (now (engine .exit)) ≡ E·Engine .key (now (engine .entry)) ⌝ }
+        ensures took { λ _. ⌜ ((nonce ad : List ℕ) → Took-data (key (now (engine .entry))) nonce ad (joined (now (self .entry) .state)) (now (self .entry) .filled) → Took-data (key (now (engine .entry))) nonce (ad ++ now (piece .entry)) (joined (now (self .exit) .state)) (now (self .exit) .filled)) ⌝ }
+        ensures same { λ _. ⌜ key (now (engine .exit)) ≡ key (now (engine .entry)) ⌝ }
     {
         let mut at = 0;
         while at < piece.len() {
@@ -135,10 +135,10 @@ impl Duplex {
 
     // Takes one byte of the text, or of the sealed text, and gives back the other.
     fn crypt_byte<E: Engine>(&mut self, engine: &mut E, direction: Direction, byte: u8) -> u8
-        ensures result { λ r. ⌜ sealed-of direction byte r ≡ sealed-byte (text-run (E·Engine .key (now (engine .entry)))) (now (self .entry) .filled) (joined (now (self .entry) .state)) (text-of direction byte r) ⌝ }
-        ensures state { λ r. ⌜ joined (now (self .exit) .state) ≡ fed-byte (text-run (E·Engine .key (now (engine .entry)))) (now (self .entry) .filled) (joined (now (self .entry) .state)) (text-of direction byte r) ⌝ }
+        ensures result { λ r. ⌜ sealed-of direction byte r ≡ sealed-byte (text-run (key (now (engine .entry)))) (now (self .entry) .filled) (joined (now (self .entry) .state)) (text-of direction byte r) ⌝ }
+        ensures state { λ r. ⌜ joined (now (self .exit) .state) ≡ fed-byte (text-run (key (now (engine .entry)))) (now (self .entry) .filled) (joined (now (self .entry) .state)) (text-of direction byte r) ⌝ }
         ensures filled { λ _. ⌜ now (self .exit) .filled ≡ (now (self .entry) .filled + 1) % 4 ⌝ }
-        ensures same { λ _. ⌜ E·Engine .key (now (engine .exit)) ≡ E·Engine .key (now (engine .entry)) ⌝ }
+        ensures same { λ _. ⌜ key (now (engine .exit)) ≡ key (now (engine .entry)) ⌝ }
     {
         self.enter(engine, Phase::Text);
         let other = byte ^ self.stream_byte();
@@ -149,10 +149,10 @@ impl Duplex {
     // Takes a full block of the text, or of the sealed text, where no block is open, and gives back the other.
     fn crypt_word<E: Engine>(&mut self, engine: &mut E, direction: Direction, word: u32) -> u32
         requires { ⌜ now self .filled ≡ 0 ⌝ }
-        ensures result { λ r. ⌜ sealed-of direction word r ≡ bitXor (text-of direction word r) (stream (text-run (E·Engine .key (now (engine .entry))) (joined (now (self .entry) .state)))) ⌝ }
-        ensures state { λ r. ⌜ joined (now (self .exit) .state) ≡ bitXor (text-run (E·Engine .key (now (engine .entry))) (joined (now (self .entry) .state))) (text-of direction word r * 2 ^ 96) ⌝ }
+        ensures result { λ r. ⌜ sealed-of direction word r ≡ bitXor (text-of direction word r) (stream (text-run (key (now (engine .entry))) (joined (now (self .entry) .state)))) ⌝ }
+        ensures state { λ r. ⌜ joined (now (self .exit) .state) ≡ bitXor (text-run (key (now (engine .entry))) (joined (now (self .entry) .state))) (text-of direction word r * 2 ^ 96) ⌝ }
         ensures filled { λ _. ⌜ now (self .exit) .filled ≡ 0 ⌝ }
-        ensures same { λ _. ⌜ E·Engine .key (now (engine .exit)) ≡ E·Engine .key (now (engine .entry)) ⌝ }
+        ensures same { λ _. ⌜ key (now (engine .exit)) ≡ key (now (engine .entry)) ⌝ }
     {
         let state = long_run(engine, self.state, 5);
         let other = word ^ stream_word(state);
@@ -169,10 +169,10 @@ impl Duplex {
         out: &mut [u8],
     )
         requires { ⌜ length (now out) ≡ length (now input) ⌝ }
-        ensures took { λ _. ⌜ ((nonce ad t : List ℕ) → Took-text (E·Engine .key (now (engine .entry))) nonce ad t (joined (now (self .entry) .state)) (now (self .entry) .filled) → Took-text (E·Engine .key (now (engine .entry))) nonce ad (t ++ text-of direction (now (input .entry)) (now (out .exit))) (joined (now (self .exit) .state)) (now (self .exit) .filled)) ⌝ }
-        ensures out { λ _. ⌜ ((nonce ad t : List ℕ) → Took-text (E·Engine .key (now (engine .entry))) nonce ad t (joined (now (self .entry) .state)) (now (self .entry) .filled) → sealed-of direction (now (input .entry)) (now (out .exit)) ≡ sealed-piece (E·Engine .key (now (engine .entry))) nonce ad t (text-of direction (now (input .entry)) (now (out .exit)))) ⌝ }
+        ensures took { λ _. ⌜ ((nonce ad t : List ℕ) → Took-text (key (now (engine .entry))) nonce ad t (joined (now (self .entry) .state)) (now (self .entry) .filled) → Took-text (key (now (engine .entry))) nonce ad (t ++ text-of direction (now (input .entry)) (now (out .exit))) (joined (now (self .exit) .state)) (now (self .exit) .filled)) ⌝ }
+        ensures out { λ _. ⌜ ((nonce ad t : List ℕ) → Took-text (key (now (engine .entry))) nonce ad t (joined (now (self .entry) .state)) (now (self .entry) .filled) → sealed-of direction (now (input .entry)) (now (out .exit)) ≡ sealed-piece (key (now (engine .entry))) nonce ad t (text-of direction (now (input .entry)) (now (out .exit)))) ⌝ }
         ensures len { λ _. ⌜ length (now (out .exit)) ≡ length (now (input .entry)) ⌝ }
-        ensures same { λ _. ⌜ E·Engine .key (now (engine .exit)) ≡ E·Engine .key (now (engine .entry)) ⌝ }
+        ensures same { λ _. ⌜ key (now (engine .exit)) ≡ key (now (engine .entry)) ⌝ }
     {
         let mut at = 0;
         while at < input.len() {
@@ -189,8 +189,8 @@ impl Duplex {
 
     // The two words of the tag, once the text is closed.
     fn tag_words<E: Engine>(&self, engine: &mut E) -> [u8; 8]
-        ensures result { λ r. ⌜ r ≡ tag (E·Engine .key (now (engine .entry))) (joined (now (self .entry) .state)) ⌝ }
-        ensures same { λ _. ⌜ E·Engine .key (now (engine .exit)) ≡ E·Engine .key (now (engine .entry)) ⌝ }
+        ensures result { λ r. ⌜ r ≡ tag (key (now (engine .entry))) (joined (now (self .entry) .state)) ⌝ }
+        ensures same { λ _. ⌜ key (now (engine .exit)) ≡ key (now (engine .entry)) ⌝ }
     {
         let middle = long_run(engine, self.state, 7);
         let end = short_run(engine, middle, 7);
@@ -201,8 +201,8 @@ impl Duplex {
 
     // Ends the text, and gives the tag.
     pub(crate) fn tag<E: Engine>(&mut self, engine: &mut E) -> [u8; 8]
-        ensures result { λ r. ⌜ ((nonce ad t : List ℕ) → Took-text (E·Engine .key (now (engine .entry))) nonce ad t (joined (now (self .entry) .state)) (now (self .entry) .filled) → r ≡ sealed-tag (E·Engine .key (now (engine .entry))) nonce ad t) ⌝ }
-        ensures same { λ _. ⌜ E·Engine .key (now (engine .exit)) ≡ E·Engine .key (now (engine .entry)) ⌝ }
+        ensures result { λ r. ⌜ ((nonce ad t : List ℕ) → Took-text (key (now (engine .entry))) nonce ad t (joined (now (self .entry) .state)) (now (self .entry) .filled) → r ≡ sealed-tag (key (now (engine .entry))) nonce ad t) ⌝ }
+        ensures same { λ _. ⌜ key (now (engine .exit)) ≡ key (now (engine .entry)) ⌝ }
     {
         self.close();
         self.tag_words(engine)

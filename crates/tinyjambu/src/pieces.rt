@@ -4,11 +4,10 @@ ghost use mathlib.Core.Bool.{false};
 ghost use Prim.Native.Nat.{ℕ, _+_, _-_, _^_, min};
 ghost use lib.ListN.{length};
 ghost use Rattle.std.specs.Results.{isOk};
-ghost use Rattle.tinyjambu.specs.Answers.{message-check, seal-answer, seal-out};
+ghost use Rattle.tinyjambu.specs.Answers.{message-answer, message-out};
 ghost use Rattle.tinyjambu.specs.Bytes.{joined, word-bytes};
 ghost use Rattle.tinyjambu.specs.History.{Took-data, Took-text, sealed-piece};
 ghost use Rattle.tinyjambu.specs.Message.{message};
-ghost use Rattle.tinyjambu.specs.Mode.{seal};
 use crate::direction::Direction;
 use crate::duplex::Duplex;
 use crate::engine::Engine;
@@ -29,8 +28,8 @@ fn joined_len(pieces: &[&[u8]]) -> usize
 
 // Takes pieces of associated data.
 fn absorb_pieces<E: Engine>(duplex: &mut Duplex, engine: &mut E, pieces: &[&[u8]])
-    ensures took { λ _. ⌜ ((nonce ad : List ℕ) → Took-data (E·Engine .key (now (engine .entry))) nonce ad (joined (now (duplex .entry) .state)) (now (duplex .entry) .filled) → Took-data (E·Engine .key (now (engine .entry))) nonce (ad ++ message (now (pieces .entry))) (joined (now (duplex .exit) .state)) (now (duplex .exit) .filled)) ⌝ }
-    ensures same { λ _. ⌜ E·Engine .key (now (engine .exit)) ≡ E·Engine .key (now (engine .entry)) ⌝ }
+    ensures took { λ _. ⌜ ((nonce ad : List ℕ) → Took-data (key (now (engine .entry))) nonce ad (joined (now (duplex .entry) .state)) (now (duplex .entry) .filled) → Took-data (key (now (engine .entry))) nonce (ad ++ message (now (pieces .entry))) (joined (now (duplex .exit) .state)) (now (duplex .exit) .filled)) ⌝ }
+    ensures same { λ _. ⌜ key (now (engine .exit)) ≡ key (now (engine .entry)) ⌝ }
 {
     for piece in pieces {
         duplex.absorb(engine, piece);
@@ -40,9 +39,9 @@ fn absorb_pieces<E: Engine>(duplex: &mut Duplex, engine: &mut E, pieces: &[&[u8]
 // Seals pieces of the text, one after another, into `out`, which is as long as they are together.
 fn crypt_pieces<E: Engine>(duplex: &mut Duplex, engine: &mut E, pieces: &[&[u8]], out: &mut [u8])
     requires { ⌜ length (now out) ≡ length (message (now pieces)) ⌝ }
-    ensures took { λ _. ⌜ ((nonce ad : List ℕ) → Took-text (E·Engine .key (now (engine .entry))) nonce ad [] (joined (now (duplex .entry) .state)) (now (duplex .entry) .filled) → Took-text (E·Engine .key (now (engine .entry))) nonce ad (message (now (pieces .entry))) (joined (now (duplex .exit) .state)) (now (duplex .exit) .filled)) ⌝ }
-    ensures out { λ _. ⌜ ((nonce ad : List ℕ) → Took-text (E·Engine .key (now (engine .entry))) nonce ad [] (joined (now (duplex .entry) .state)) (now (duplex .entry) .filled) → now (out .exit) ≡ sealed-piece (E·Engine .key (now (engine .entry))) nonce ad [] (message (now (pieces .entry)))) ⌝ }
-    ensures same { λ _. ⌜ E·Engine .key (now (engine .exit)) ≡ E·Engine .key (now (engine .entry)) ⌝ }
+    ensures took { λ _. ⌜ ((nonce ad : List ℕ) → Took-text (key (now (engine .entry))) nonce ad [] (joined (now (duplex .entry) .state)) (now (duplex .entry) .filled) → Took-text (key (now (engine .entry))) nonce ad (message (now (pieces .entry))) (joined (now (duplex .exit) .state)) (now (duplex .exit) .filled)) ⌝ }
+    ensures out { λ _. ⌜ ((nonce ad : List ℕ) → Took-text (key (now (engine .entry))) nonce ad [] (joined (now (duplex .entry) .state)) (now (duplex .entry) .filled) → now (out .exit) ≡ sealed-piece (key (now (engine .entry))) nonce ad [] (message (now (pieces .entry)))) ⌝ }
+    ensures same { λ _. ⌜ key (now (engine .exit)) ≡ key (now (engine .entry)) ⌝ }
 {
     let mut at = 0;
     for piece in pieces {
@@ -60,9 +59,9 @@ pub fn seal_pieces<E: Engine>(
     text: &[&[u8]],
     out: &mut [u8],
 ) -> Result<usize, Fault>
-    ensures answer { λ r. ⌜ r ≡ seal-answer (message-check (length (message (now (ad .entry)))) (length (message (now (text .entry)))) (length (now (out .entry)))) (length (message (now (text .entry)))) ⌝ }
-    ensures out { λ _. ⌜ now (out .exit) ≡ seal-out (message-check (length (message (now (ad .entry)))) (length (message (now (text .entry)))) (length (now (out .entry)))) (seal (E·Engine .key (now (engine .entry))) (word-bytes nonce) (message (now (ad .entry))) (message (now (text .entry)))) (now (out .entry)) ⌝ }
-    ensures same { λ _. ⌜ E·Engine .key (now (engine .exit)) ≡ E·Engine .key (now (engine .entry)) ⌝ }
+    ensures answer { λ r. ⌜ r ≡ message-answer (message (now (ad .entry))) (message (now (text .entry))) (now (out .entry)) ⌝ }
+    ensures out { λ _. ⌜ now (out .exit) ≡ message-out (key (now (engine .entry))) (word-bytes nonce) (message (now (ad .entry))) (message (now (text .entry))) (now (out .entry)) ⌝ }
+    ensures same { λ _. ⌜ key (now (engine .exit)) ≡ key (now (engine .entry)) ⌝ }
     ensures refused { λ r. ⌜ (isOk r ≡ false → now (engine .exit) ≡ now (engine .entry)) ⌝ }
 {
     let len = joined_len(text);

@@ -34,8 +34,8 @@ pub struct TextSession<E> {
 impl<E: Engine> Session<E> {
     // Begins a session under a nonce, which the key must not have met before.
     pub fn new(engine: E, nonce: [u32; 3]) -> Session<E>
-        ensures begun { λ r. ⌜ Has-data (E·Engine .key (r .engine)) (word-bytes nonce) [] (r .duplex) (r .taken) ⌝ }
-        ensures same { λ r. ⌜ E·Engine .key (r .engine) ≡ E·Engine .key engine ⌝ }
+        ensures begun { λ r. ⌜ Has-data key (word-bytes nonce) [] r ⌝ }
+        ensures same { λ r. ⌜ key (r .engine) ≡ E·Engine .key engine ⌝ }
     {
         let mut engine = engine;
         let duplex = Duplex::begin(&mut engine, nonce);
@@ -49,8 +49,8 @@ impl<E: Engine> Session<E> {
     // Takes a piece of associated data: what was taken before is extended by it.
     pub fn absorb(&mut self, piece: &[u8]) -> Result<(), Fault>
         ensures answer { λ r. ⌜ r ≡ data-answer (now (self .entry) .taken) (length (now (piece .entry))) ⌝ }
-        ensures extends { λ r. ⌜ (isOk r ≡ true → (nonce ad : List ℕ) → Has-data (E·Engine .key (now (self .entry) .engine)) nonce ad (now (self .entry) .duplex) (now (self .entry) .taken) → Has-data (E·Engine .key (now (self .exit) .engine)) nonce (ad ++ now (piece .entry)) (now (self .exit) .duplex) (now (self .exit) .taken)) ⌝ }
-        ensures same { λ _. ⌜ E·Engine .key (now (self .exit) .engine) ≡ E·Engine .key (now (self .entry) .engine) ⌝ }
+        ensures extends { λ r. ⌜ (isOk r ≡ true → (nonce ad : List ℕ) → Has-data key nonce ad (now (self .entry)) → Has-data key nonce (ad ++ now (piece .entry)) (now (self .exit))) ⌝ }
+        ensures same { λ _. ⌜ key (now (self .exit) .engine) ≡ key (now (self .entry) .engine) ⌝ }
         ensures refused { λ r. ⌜ (isOk r ≡ false → now (self .exit) ≡ now (self .entry)) ⌝ }
     {
         if too_long(self.taken, piece.len()) {
@@ -63,7 +63,7 @@ impl<E: Engine> Session<E> {
 
     // Ends the associated data, and goes on to the text.
     pub fn into_text(self) -> TextSession<E>
-        ensures ended { λ r. ⌜ ((nonce ad : List ℕ) → Has-data (E·Engine .key (self .engine)) nonce ad (self .duplex) (self .taken) → Has-text (E·Engine .key (r .engine)) nonce ad [] (r .duplex) (r .taken)) ⌝ }
+        ensures ended { λ r. ⌜ ((nonce ad : List ℕ) → Has-data key nonce ad self → Has-text key nonce ad [] r) ⌝ }
         ensures same { λ r. ⌜ r .engine ≡ self .engine ⌝ }
     {
         let Session {
@@ -84,9 +84,9 @@ impl<E: Engine> TextSession<E> {
     // Takes a piece of the text, and writes its part of the joined text's sealed form at the start of `out`.
     pub fn seal(&mut self, piece: &[u8], out: &mut [u8]) -> Result<usize, Fault>
         ensures answer { λ r. ⌜ r ≡ text-answer (now (self .entry) .taken) (length (now (piece .entry))) (length (now (out .entry))) ⌝ }
-        ensures extends { λ r. ⌜ (isOk r ≡ true → (nonce ad t : List ℕ) → Has-text (E·Engine .key (now (self .entry) .engine)) nonce ad t (now (self .entry) .duplex) (now (self .entry) .taken) → Has-text (E·Engine .key (now (self .exit) .engine)) nonce ad (t ++ now (piece .entry)) (now (self .exit) .duplex) (now (self .exit) .taken)) ⌝ }
-        ensures out { λ r. ⌜ (isOk r ≡ true → (nonce ad t : List ℕ) → Has-text (E·Engine .key (now (self .entry) .engine)) nonce ad t (now (self .entry) .duplex) (now (self .entry) .taken) → now (out .exit) ≡ written (sealed-piece (E·Engine .key (now (self .entry) .engine)) nonce ad t (now (piece .entry))) (now (out .entry))) ⌝ }
-        ensures same { λ _. ⌜ E·Engine .key (now (self .exit) .engine) ≡ E·Engine .key (now (self .entry) .engine) ⌝ }
+        ensures extends { λ r. ⌜ (isOk r ≡ true → (nonce ad t : List ℕ) → Has-text key nonce ad t (now (self .entry)) → Has-text key nonce ad (t ++ now (piece .entry)) (now (self .exit))) ⌝ }
+        ensures out { λ r. ⌜ (isOk r ≡ true → (nonce ad t : List ℕ) → Has-text key nonce ad t (now (self .entry)) → now (out .exit) ≡ written (sealed-piece (key (now (self .entry) .engine)) nonce ad t (now (piece .entry))) (now (out .entry))) ⌝ }
+        ensures same { λ _. ⌜ key (now (self .exit) .engine) ≡ key (now (self .entry) .engine) ⌝ }
         ensures refused { λ r. ⌜ (isOk r ≡ false → (now (self .exit) ≡ now (self .entry)) × (now (out .exit) ≡ now (out .entry))) ⌝ }
     {
         let len = piece.len();
@@ -96,20 +96,17 @@ impl<E: Engine> TextSession<E> {
         if out.len() < len {
             return Err(Fault::outside(Refusal::OutTooShort));
         }
-        self.duplex.crypt(
-            &mut self.engine,
-            Direction::Sealing,
-            piece,
-            &mut out[0..len],
-        );
+        let part = &mut out[0..len];
+        self.duplex
+            .crypt(&mut self.engine, Direction::Sealing, piece, part);
         self.taken += len;
         Ok(len)
     }
 
     // Ends the text, and gives the tag of the joined data and text, and the engine back.
     pub fn into_tag(self) -> ([u8; 8], E)
-        ensures tag { λ r. ⌜ ((nonce ad t : List ℕ) → Has-text (E·Engine .key (self .engine)) nonce ad t (self .duplex) (self .taken) → r .0 ≡ sealed-tag (E·Engine .key (self .engine)) nonce ad t) ⌝ }
-        ensures same { λ r. ⌜ E·Engine .key (r .1) ≡ E·Engine .key (self .engine) ⌝ }
+        ensures tag { λ r. ⌜ ((nonce ad t : List ℕ) → Has-text key nonce ad t self → r .0 ≡ sealed-tag (key (self .engine)) nonce ad t) ⌝ }
+        ensures same { λ r. ⌜ key (r .1) ≡ key (self .engine) ⌝ }
     {
         let TextSession {
             mut engine,

@@ -6,12 +6,12 @@ ghost use lib.Dec.{eqb};
 ghost use lib.ListN.{length, drop, take};
 ghost use Rattle.std.specs.Results.{isOk};
 ghost use Rattle.std.specs.declared.option.Option.the-variants.{Some, None};
-ghost use Rattle.tinyjambu.specs.Answers.{seal-check, seal-answer, seal-out, open-check, open-answer, open-out};
+ghost use Rattle.tinyjambu.specs.Answers.{seal-answer, seal-out, open-answer, open-out};
 ghost use Rattle.tinyjambu.specs.Bytes.{word-bytes};
 ghost use Rattle.tinyjambu.specs.History.{sealed-piece, sealed-tag};
 ghost use Rattle.tinyjambu.specs.Message.{nonce-words};
 ghost use Rattle.tinyjambu.specs.Mode.{seal, opened, same};
-ghost use Rattle.tinyjambu.specs.Laws.{Exact};
+ghost use Rattle.tinyjambu.specs.Laws.{Opens-exactly};
 use crate::direction::Direction;
 use crate::duplex::Duplex;
 use crate::engine::Engine;
@@ -40,9 +40,9 @@ pub fn seal<E: Engine>(
     text: &[u8],
     out: &mut [u8],
 ) -> Result<usize, Fault>
-    ensures answer { λ r. ⌜ r ≡ seal-answer (seal-check (length (now (nonce .entry))) (length (now (ad .entry))) (length (now (text .entry))) (length (now (out .entry)))) (length (now (text .entry))) ⌝ }
-    ensures out { λ _. ⌜ now (out .exit) ≡ seal-out (seal-check (length (now (nonce .entry))) (length (now (ad .entry))) (length (now (text .entry))) (length (now (out .entry)))) (seal (E·Engine .key (now (engine .entry))) (now (nonce .entry)) (now (ad .entry)) (now (text .entry))) (now (out .entry)) ⌝ }
-    ensures same { λ _. ⌜ E·Engine .key (now (engine .exit)) ≡ E·Engine .key (now (engine .entry)) ⌝ }
+    ensures answer { λ r. ⌜ r ≡ seal-answer (now (nonce .entry)) (now (ad .entry)) (now (text .entry)) (now (out .entry)) ⌝ }
+    ensures out { λ _. ⌜ now (out .exit) ≡ seal-out (key (now (engine .entry))) (now (nonce .entry)) (now (ad .entry)) (now (text .entry)) (now (out .entry)) ⌝ }
+    ensures same { λ _. ⌜ key (now (engine .exit)) ≡ key (now (engine .entry)) ⌝ }
     ensures refused { λ r. ⌜ (isOk r ≡ false → now (engine .exit) ≡ now (engine .entry)) ⌝ }
 {
     let Some(words) = nonce_words(nonce) else {
@@ -72,8 +72,8 @@ fn recover<E: Engine>(
     out: &mut [u8],
 ) -> bool
     requires { ⌜ length (now out) + 8 ≡ length (now sealed) ⌝ }
-    ensures text { λ r. ⌜ opened (E·Engine .key (now (engine .entry))) (word-bytes nonce) (now (ad .entry)) (now (sealed .entry)) ≡ cond r (Some (now (out .exit))) None ⌝ }
-    ensures same { λ _. ⌜ E·Engine .key (now (engine .exit)) ≡ E·Engine .key (now (engine .entry)) ⌝ }
+    ensures text { λ r. ⌜ opened (key (now (engine .entry))) (word-bytes nonce) (now (ad .entry)) (now (sealed .entry)) ≡ cond r (Some (now (out .exit))) None ⌝ }
+    ensures same { λ _. ⌜ key (now (engine .exit)) ≡ key (now (engine .entry)) ⌝ }
 {
     let len = out.len();
     let mut duplex = Duplex::begin(engine, nonce);
@@ -91,10 +91,10 @@ pub fn open<E: Engine>(
     sealed: &[u8],
     out: &mut [u8],
 ) -> Result<usize, Fault>
-    ensures answer { λ r. ⌜ r ≡ open-answer (open-check (length (now (nonce .entry))) (length (now (ad .entry))) (length (now (sealed .entry))) (length (now (out .entry)))) (opened (E·Engine .key (now (engine .entry))) (now (nonce .entry)) (now (ad .entry)) (now (sealed .entry))) ⌝ }
-    ensures out { λ _. ⌜ now (out .exit) ≡ open-out (open-check (length (now (nonce .entry))) (length (now (ad .entry))) (length (now (sealed .entry))) (length (now (out .entry)))) (opened (E·Engine .key (now (engine .entry))) (now (nonce .entry)) (now (ad .entry)) (now (sealed .entry))) (now (out .entry)) ⌝ }
-    ensures exact { λ r. ⌜ ((open-check (length (now (nonce .entry))) (length (now (ad .entry))) (length (now (sealed .entry))) (length (now (out .entry)))) ≡ None → Exact (E·Engine .key (now (engine .entry))) (now (nonce .entry)) (now (ad .entry)) (now (sealed .entry)) r (now (out .exit))) ⌝ }
-    ensures same { λ _. ⌜ E·Engine .key (now (engine .exit)) ≡ E·Engine .key (now (engine .entry)) ⌝ }
+    ensures answer { λ r. ⌜ r ≡ open-answer (key (now (engine .entry))) (now (nonce .entry)) (now (ad .entry)) (now (sealed .entry)) (now (out .entry)) ⌝ }
+    ensures out { λ _. ⌜ now (out .exit) ≡ open-out (key (now (engine .entry))) (now (nonce .entry)) (now (ad .entry)) (now (sealed .entry)) (now (out .entry)) ⌝ }
+    ensures exact { λ r. ⌜ Opens-exactly (key (now (engine .entry))) (now (nonce .entry)) (now (ad .entry)) (now (sealed .entry)) (now (out .entry)) r (now (out .exit)) ⌝ }
+    ensures same { λ _. ⌜ key (now (engine .exit)) ≡ key (now (engine .entry)) ⌝ }
 {
     let mut guard = Wipe { out, kept: false };
     let Some(words) = nonce_words(nonce) else {

@@ -8,7 +8,7 @@ use Rattle.std.specs.declared.option.Option.{Option}
 use Rattle.std.specs.declared.option.Option.the-variants.{Some, None}
 use Rattle.tinyjambu.specs.declared.refusal.Refusal.{Refusal}
 use Rattle.tinyjambu.specs.declared.refusal.Refusal.the-variants.{KeyLength}
-use Rattle.tinyjambu.specs.Answers.{open-check, open-answer}
+use Rattle.tinyjambu.specs.Answers.{open-check, opened-answer}
 use Rattle.tinyjambu.specs.Keys.{is-key-size}
 use Rattle.tinyjambu.specs.Mode.{opened}
 use Rattle.tinyjambu.proofs.Opening.{opened-length, none-taken, open-check-short}
@@ -16,7 +16,7 @@ use Rattle.host.specs.Host.{host-check}
 use Rattle.host.proofs.vurshade_open.Needs as need
 
 -- what is answered is the length of a text that passed the checks
-fits : (check : Option Refusal) (o : Option (List ℕ)) (n : ℕ) → (check ≡ None → (t : List ℕ) → o ≡ Some t → length t < n) → made (open-answer check o) (λ m. m < n)
+fits : (check : Option Refusal) (o : Option (List ℕ)) (n : ℕ) → (check ≡ None → (t : List ℕ) → o ≡ Some t → length t < n) → made (opened-answer check o) (λ m. m < n)
 fits (Some r) o n h = tt
 fits None None n h = tt
 fits None (Some t) n h = h refl t refl

@@ -5,7 +5,7 @@ use native.Mathlib.Omega.{arith}
 use lib.ListN.{length, take-append-drop}
 use Rattle.std.specs.declared.result.Result.the-variants.{Ok}
 use Rattle.std.proofs.shelf.Tests.{true≢false}
-use Rattle.tinyjambu.specs.Answers.{seal-answer, seal-out, written}
+use Rattle.tinyjambu.specs.Answers.{sealed-answer, sealed-out, written}
 use Rattle.tinyjambu.specs.Bytes.{joined, word-bytes}
 use Rattle.tinyjambu.specs.History.{Took-data, Took-text, sealed-piece, sealed-tag}
 use Rattle.tinyjambu.specs.Message.{message}
@@ -46,9 +46,9 @@ returns g c =
     let tag = c .copy-from-slice .ensures .after ∙ tags n ad t (seals n ad took) in
     let whole : c .crypt-pieces .last .out ++ c .copy-from-slice .last .self ≡ seal key n ad t = ap₂ _++_ text tag ∙ take-append-drop (length t) (seal key n ad t) in
     record {
-      answer = ap (λ x. Ok (x + 8)) (q .1) ∙ sym (ap (λ k. seal-answer k (length t)) check);
+      answer = ap (λ x. Ok (x + 8)) (q .1) ∙ sym (ap (λ k. sealed-answer k (length t)) check);
       out = written-tag (c .crypt-pieces .last .out) (c .copy-from-slice .last .self) out (c .joined-len-len .result) (ap length text ∙ length-sealed-text key n ad t ∙ sym (q .1)) (ap length tag ∙ length-sealed-tag key n ad t)
-          ∙ ap (λ x. written x out) whole ∙ sym (ap (λ k. seal-out k (seal key n ad t) out) check);
+          ∙ ap (λ x. written x out) whole ∙ sym (ap (λ k. sealed-out k (seal key n ad t) out) check);
       same = c .tag-tag .ensures .same ∙ k₃;
       refused = λ e. absurd (true≢false e);
     }

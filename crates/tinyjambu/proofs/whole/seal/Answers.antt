@@ -3,7 +3,7 @@ use mathlib.Core.List.{List, [], _++_, append-nil}
 use Prim.Native.Nat.{ℕ}
 use lib.ListN.{length}
 use Rattle.std.proofs.shelf.Tests.{cond-true}
-use Rattle.tinyjambu.specs.Answers.{seal-answer, seal-out, seal-check, message-check}
+use Rattle.tinyjambu.specs.Answers.{sealed-answer, sealed-out, seal-check, message-check}
 use Rattle.tinyjambu.specs.Bytes.{word-bytes}
 use Rattle.tinyjambu.specs.Mode.{seal}
 use Rattle.tinyjambu.proofs.Joined.{all-bytes}
@@ -23,8 +23,8 @@ returns g c =
     let words : List ℕ = word-bytes (c .in-Some .words) in
     let message : seal key words (ad ++ []) (t ++ []) ≡ seal key n ad t = ap₂ (λ x y. seal key words x y) (append-nil ad) (append-nil t) ∙ ap (λ x. seal key x ad t) (taken .1) in
     record {
-      answer = c .seal-pieces .ensures .answer ∙ ap₂ (λ x y. seal-answer x (length y)) check (append-nil t);
-      out = c .seal-pieces .ensures .out ∙ ap₂ (λ x y. seal-out x y out) check message;
+      answer = c .seal-pieces .ensures .answer ∙ ap₂ (λ x y. sealed-answer x (length y)) check (append-nil t);
+      out = c .seal-pieces .ensures .out ∙ ap₂ (λ x y. sealed-out x y out) check message;
       same = c .seal-pieces .ensures .same;
       refused = c .seal-pieces .ensures .refused;
     }
