@@ -9,7 +9,7 @@ use Rattle.std.proofs.shelf.Lists.{take-at, drop-at}
 use Rattle.tinyjambu.specs.Bytes.{All-bytes}
 use Rattle.tinyjambu.specs.Mode.{begun, blocks, absorbed, data-run, text-run, text-state, ciphertext, tag, seal, stream}
 use Rattle.tinyjambu.specs.Duplex.{fed, sealed-bytes, closed}
-use Rattle.tinyjambu.specs.History.{Took-data, Took-text, sealed-piece, sealed-tag}
+use Rattle.tinyjambu.specs.History.{Took, Took-data, Took-text, sealed-piece, sealed-tag}
 use Rattle.tinyjambu.proofs.Walk.{flat, walked, ended}
 use Rattle.tinyjambu.proofs.Exact.{ciphertext-is, text-state-is}
 use Rattle.tinyjambu.proofs.Feeding.{fed-after, sealed-after, length-sealed}
@@ -18,17 +18,19 @@ use Rattle.tinyjambu.proofs.Blocks.{block-step, fed-blocks, sealed-blocks, abs
 place-more : (t p k : ℕ) → k ≡ t % 4 → (k + p) % 4 ≡ (t + p) % 4
 place-more t p k e = omega arith
 
+-- a piece more of a phase
+pub took-more : {run : ℕ → ℕ} {start : ℕ} {bs : List ℕ} {s k : ℕ} → Took run start bs s k → (p : List ℕ) (s′ k′ : ℕ) → All-bytes p
+    → s′ ≡ fed run k s p → k′ ≡ (k + length p) % 4 → Took run start (bs ++ p) s′ k′
+took-more {run} {start} {bs} {s} {k} h p s′ k′ small e f = record {
+  small = all-append (λ b. b < 256) bs p (h .small) small;
+  state = e ∙ ap₂ (λ x y. fed run x y p) (h .filled) (h .state) ∙ fed-after run bs p start;
+  filled = f ∙ place-more (length bs) (length p) k (h .filled) ∙ ap (λ n. n % 4) (sym (length-append bs p))
+}
+
 module _ (key nonce : List ℕ) where
+  -- the associated data begins, and ends
   pub data-none : (s k : ℕ) → s ≡ begun key nonce → k ≡ 0 → Took-data key nonce [] s k
   data-none s k e f = record { small = tt; state = e; filled = f }
-
-  pub data-more : (ad p : List ℕ) (s k s′ k′ : ℕ) → Took-data key nonce ad s k → All-bytes p
-      → s′ ≡ fed (data-run key) k s p → k′ ≡ (k + length p) % 4 → Took-data key nonce (ad ++ p) s′ k′
-  data-more ad p s k s′ k′ h small e f = record {
-    small = all-append (λ b. b < 256) ad p (h .small) small;
-    state = e ∙ ap₂ (λ x y. fed (data-run key) x y p) (h .filled) (h .state) ∙ fed-after (data-run key) ad p (begun key nonce);
-    filled = f ∙ place-more (length ad) (length p) k (h .filled) ∙ ap (λ n. n % 4) (sym (length-append ad p));
-  }
 
   pub data-all : (ad : List ℕ) (s k s′ k′ : ℕ) → Took-data key nonce ad s k → s′ ≡ closed k s → k′ ≡ 0 → Took-text key nonce ad [] s′ k′
   data-all ad s k s′ k′ h e f = record {
@@ -41,14 +43,6 @@ module _ (key nonce : List ℕ) where
   module _ (ad : List ℕ) where
     abbrev start : ℕ
     start = absorbed key (begun key nonce) (blocks ad)
-
-    pub text-more : (t p : List ℕ) (s k s′ k′ : ℕ) → Took-text key nonce ad t s k → All-bytes p
-        → s′ ≡ fed (text-run key) k s p → k′ ≡ (k + length p) % 4 → Took-text key nonce ad (t ++ p) s′ k′
-    text-more t p s k s′ k′ h small e f = record {
-      small = all-append (λ b. b < 256) t p (h .small) small;
-      state = e ∙ ap₂ (λ x y. fed (text-run key) x y p) (h .filled) (h .state) ∙ fed-after (text-run key) t p start;
-      filled = f ∙ place-more (length t) (length p) k (h .filled) ∙ ap (λ n. n % 4) (sym (length-append t p));
-    }
 
     sealed-is : (t : List ℕ) → All-bytes t → sealed-bytes (text-run key) 0 start t ≡ ciphertext key start (blocks t)
     sealed-is t small = sealed-blocks (text-run key) t start small ∙ sym (ciphertext-is key start (blocks t))

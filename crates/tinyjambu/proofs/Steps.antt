@@ -24,23 +24,25 @@ pub record Fed (run : ℕ → ℕ) (k s at : ℕ) (piece : List ℕ) (state fill
   pub place : filled ≡ (k + at) % 4
 
 module _ {run : ℕ → ℕ} {k s at : ℕ} {piece : List ℕ} {state filled : ℕ} (h : Fed run k s at piece state filled) where
-  -- n bytes more
-  fed-more : (part : List ℕ) (n next after : ℕ) → at + n ≤ length piece → take (at + n) piece ≡ take at piece ++ part
-      → next ≡ fed run filled state part → after ≡ (filled + n) % 4 → Fed run k s (at + n) piece next after
-  fed-more part n next after l e p q =
-      let m = length-take-le at piece (h .within) in
-      let few : k < 4 = h .few in
-      let place : filled ≡ (k + at) % 4 = h .place in
+  -- how far the open block is, by what came
+  fed-place : filled ≡ (k + length (take at piece)) % 4
+  fed-place = h .place ∙ ap (λ x. (k + x) % 4) (sym (length-take-le at piece (h .within)))
+
+  -- n bytes more, of a piece that may have changed past `at`
+  fed-more : (next part : List ℕ) (n after place : ℕ) → at + n ≤ length next → take (at + n) next ≡ take at piece ++ part
+      → after ≡ fed run filled state part → place ≡ (filled + n) % 4 → Fed run k s (at + n) next after place
+  fed-more next part n after place l e p q =
+      let here : filled ≡ (k + at) % 4 = h .place in
       record {
         within = l;
-        few = few;
-        is = p ∙ ap₂ (λ x y. fed run x y part) (place ∙ ap (λ x. (k + x) % 4) (sym m)) (h .is) ∙ sym (ap (fed run k s) e ∙ fed-append run (take at piece) part k s few);
-        place = omega arith;
+        few = h .few;
+        is = p ∙ ap₂ (λ x y. fed run x y part) fed-place (h .is) ∙ sym (ap (fed run k s) e ∙ fed-append run (take at piece) part k s (h .few));
+        place = omega arith
       }
 
   pub fed-byte-more : (next after : ℕ) → at < length piece → next ≡ fed-byte run filled state (getD piece at 0) → after ≡ (filled + 1) % 4
       → Fed run k s (at + 1) piece next after
-  fed-byte-more next after l = fed-more (getD piece at 0 ∷ []) 1 next after (omega arith) (take-more piece at 0 l)
+  fed-byte-more next after l = fed-more piece (getD piece at 0 ∷ []) 1 next after (omega arith) (take-more piece at 0 l)
 
   pub fed-word-more : (next after : ℕ) → All-bytes piece → at + 4 ≤ length piece → filled ≡ 0 → next ≡ bitXor (run state) (number (take 4 (drop at piece)) * 2 ^ 96) → after ≡ 0
       → Fed run k s (at + 4) piece next after
@@ -48,7 +50,7 @@ module _ {run : ℕ → ℕ} {k s at : ℕ} {piece : List ℕ} {state filled : �
       let part : List ℕ = take 4 (drop at piece) in
       let m : length part ≡ 4 = length-take-le 4 (drop at piece) (rw length-drop (omega arith)) in
       let b = fed-block run part state (omega arith) (omega arith) (all-take (λ b. b < 256) 4 (drop at piece) (all-drop (λ b. b < 256) at piece small)) in
-      fed-more part 4 next after l (take-add at 4 piece) (p ∙ sym b ∙ ap (λ x. fed run x state part) (sym e)) (omega arith)
+      fed-more piece part 4 next after l (take-add at 4 piece) (p ∙ sym b ∙ ap (λ x. fed run x state part) (sym e)) (omega arith)
 
 -- nothing yet, and all of it
 pub fed-none : (run : ℕ → ℕ) (k s : ℕ) (piece : List ℕ) → k < 4 → Fed run k s 0 piece s k
@@ -61,12 +63,9 @@ fed-all {run} {k} {s} {at} {piece} h l =
     let n : length piece ≡ at = omega arith in
     (h .is ∙ ap (fed run k s) (take-all at piece l), h .place ∙ ap (λ x. (k + x) % 4) (sym n))
 
--- The same of a piece that is sealed or opened: besides, the sealed bytes so far are those of the text so far.
+-- The same of a piece that is sealed or opened: besides, the sealed bytes so far are those of the text so far, and what was written is bytes.
 pub record Crypted (run : ℕ → ℕ) (k s at : ℕ) (d : Direction) (input out : List ℕ) (state filled : ℕ) : Type 0 where
-  pub within : at ≤ length input
-  pub few : k < 4
-  pub is : state ≡ fed run k s (take at (text-of d input out))
-  pub place : filled ≡ (k + at) % 4
+  pub fed : Fed run k s at (text-of d input out) state filled
   pub made : take at (sealed-of d input out) ≡ sealed-bytes run k s (take at (text-of d input out))
   pub long : length out ≡ length input
   pub small : All-bytes (take at out)
@@ -134,22 +133,15 @@ module _ {run : ℕ → ℕ} {k s at : ℕ} {d : Direction} {input out : List �
       → sealed-of d part other ≡ sealed-bytes run filled state (text-of d part other)
       → Crypted run k s (at + n) d input next after place
   crypted-more part other next n after place l p q long small a b made =
-      let within : at ≤ length input = h .within in
-      let few : k < 4 = h .few in
-      let here : filled ≡ (k + at) % 4 = h .place in
       let text : List ℕ = take at (text-of d input out) in
-      let m : length text ≡ at = length-take-le at (text-of d input out) (rw (either-length d input out (h .long)) within) in
+      let more : List ℕ = text-of d part other in
       let both = either-more d input out next part other at n p q in
-      let step : ℕ = (k + length text) % 4 in
-      let f : filled ≡ step = here ∙ ap (λ x. (k + x) % 4) (sym m) in
       record {
-        within = l;
-        few = few;
-        is = a ∙ ap₂ (λ x y. fed run x y (text-of d part other)) f (h .is) ∙ sym (ap (fed run k s) (both .0) ∙ fed-append run text (text-of d part other) k s few);
-        place = omega arith;
-        made = both .1 ∙ ap₂ _++_ (h .made) (made ∙ ap₂ (λ x y. sealed-bytes run x y (text-of d part other)) f (h .is)) ∙ sym (ap (sealed-bytes run k s) (both .0) ∙ sealed-append run text (text-of d part other) k s few);
+        fed = fed-more (h .fed) (text-of d input next) more n after place (rw (either-length d input next long) l) (both .0) a b;
+        made = both .1 ∙ ap₂ _++_ (h .made) (made ∙ ap₂ (λ x y. sealed-bytes run x y more) (fed-place (h .fed)) (h .fed .is))
+            ∙ sym (ap (sealed-bytes run k s) (both .0) ∙ sealed-append run text more k s (h .fed .few));
         long = long;
-        small = rw q (all-append (λ b. b < 256) (take at out) other (h .small) small);
+        small = rw q (all-append (λ b. b < 256) (take at out) other (h .small) small)
       }
 
   pub crypted-byte-more : (r after place : ℕ) → at < length input → r < 256 → after ≡ fed-byte run filled state (text-of d (getD input at 0) r) → place ≡ (filled + 1) % 4
@@ -183,15 +175,14 @@ module _ {run : ℕ → ℕ} {k s at : ℕ} {d : Direction} {input out : List �
 
 -- nothing yet, and all of it
 pub crypted-none : (run : ℕ → ℕ) (k s : ℕ) (d : Direction) (input out : List ℕ) → k < 4 → length out ≡ length input → Crypted run k s 0 d input out s k
-crypted-none run k s d input out h e = record { within = omega arith; few = h; is = refl; place = omega arith; made = refl; long = e; small = tt }
+crypted-none run k s d input out h e = record { fed = fed-none run k s (text-of d input out) h; made = refl; long = e; small = tt }
 
 pub crypted-all : {run : ℕ → ℕ} {k s at : ℕ} {d : Direction} {input out : List ℕ} {state filled : ℕ} → Crypted run k s at d input out state filled → length input ≤ at
-    → (sealed-of d input out ≡ sealed-bytes run k s (text-of d input out)) × (state ≡ fed run k s (text-of d input out)) × (filled ≡ (k + length input) % 4) × All-bytes out
+    → (sealed-of d input out ≡ sealed-bytes run k s (text-of d input out)) × (state ≡ fed run k s (text-of d input out)) × (filled ≡ (k + length (text-of d input out)) % 4) × All-bytes out
 crypted-all {run} {k} {s} {at} {d} {input} {out} h l =
-    let w = h .within in
     let long : length out ≡ length input = h .long in
-    let n : length input ≡ at = omega arith in
-    let both : (xs : List ℕ) → length xs ≡ length input → take at xs ≡ xs = λ xs e. take-all at xs (omega arith) in
-    let t = both (text-of d input out) (either-length d input out long) in
-    let c = both (sealed-of d input out) (other-length d input out long) in
-    (sym c ∙ h .made ∙ ap (sealed-bytes run k s) t, h .is ∙ ap (fed run k s) t, h .place ∙ ap (λ x. (k + x) % 4) (sym n), rw (both out long) at (h .small))
+    let n : length (text-of d input out) ≡ length input = either-length d input out long in
+    let all = fed-all (h .fed) (omega arith) in
+    let whole : (xs : List ℕ) → length xs ≡ length input → take at xs ≡ xs = λ xs e. take-all at xs (omega arith) in
+    (sym (whole (sealed-of d input out) (other-length d input out long)) ∙ h .made ∙ ap (sealed-bytes run k s) (whole (text-of d input out) n),
+    all .0, all .1, rw (whole out long) at (h .small))

@@ -7,17 +7,19 @@ use Rattle.tinyjambu.specs.Bytes.{All-bytes}
 use Rattle.tinyjambu.specs.Mode.{begun, blocks, absorbed, data-run, text-run, seal}
 use Rattle.tinyjambu.specs.Duplex.{fed}
 
+-- a phase that began at the state `start` has taken the bytes bs
+pub record Took (run : ℕ → ℕ) (start : ℕ) (bs : List ℕ) (s k : ℕ) : Type 0 where
+  pub small : All-bytes bs
+  pub state : s ≡ fed run 0 start bs
+  pub filled : k ≡ length bs % 4
+
 -- the associated data ad
-pub record Took-data (key nonce ad : List ℕ) (s k : ℕ) : Type 0 where
-  pub small : All-bytes ad
-  pub state : s ≡ fed (data-run key) 0 (begun key nonce) ad
-  pub filled : k ≡ length ad % 4
+abbrev pub Took-data : List ℕ → List ℕ → List ℕ → ℕ → ℕ → Type 0
+Took-data key nonce ad s k = Took (data-run key) (begun key nonce) ad s k
 
 -- all of the associated data ad, and the text t
-pub record Took-text (key nonce ad t : List ℕ) (s k : ℕ) : Type 0 where
-  pub small : All-bytes t
-  pub state : s ≡ fed (text-run key) 0 (absorbed key (begun key nonce) (blocks ad)) t
-  pub filled : k ≡ length t % 4
+abbrev pub Took-text : List ℕ → List ℕ → List ℕ → List ℕ → ℕ → ℕ → Type 0
+Took-text key nonce ad t s k = Took (text-run key) (absorbed key (begun key nonce) (blocks ad)) t s k
 
 -- the part of the sealed form of t and p joined that stands for p, and the part that stands for no text: the tag
 abbrev pub sealed-piece : List ℕ → List ℕ → List ℕ → List ℕ → List ℕ → List ℕ

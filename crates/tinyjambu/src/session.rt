@@ -72,10 +72,11 @@ impl<E: Engine> Session<E> {
             taken: _,
         } = self;
         duplex.end_data();
+        let taken = 0;
         TextSession {
             engine,
             duplex,
-            taken: 0,
+            taken,
         }
     }
 }

@@ -6,7 +6,7 @@ use lib.ListN.{length, getD}
 use Rattle.tinyjambu.specs.Bytes.{joined}
 use Rattle.tinyjambu.specs.Mode.{data-run}
 use Rattle.tinyjambu.specs.Duplex.{fed-byte}
-use Rattle.tinyjambu.proofs.Histories.{data-more}
+use Rattle.tinyjambu.proofs.Histories.{took-more}
 use Rattle.tinyjambu.proofs.Joined.{all-bytes}
 use Rattle.tinyjambu.proofs.Steps.{fed-none, fed-all, fed-byte-more, fed-word-more}
 use Rattle.tinyjambu.proofs.duplex.Duplex.absorb.Needs as need
@@ -38,8 +38,7 @@ loop-at-again g c =
 pub returns : need.returns
 returns g c =
     let all = fed-all (c .loop-at .inv .0) (c .loop-at-test .left) in
-    let key = g .E·Engine .key (c .args .engine .now) in
     record {
-      took = λ nonce ad h. data-more key nonce ad (c .args .piece .now) _ _ _ _ h (all-bytes (c .args .piece .now) (c .typed .piece)) (all .0) (all .1);
+      took = λ nonce ad h. took-more h (c .args .piece .now) _ _ (all-bytes (c .args .piece .now) (c .typed .piece)) (all .0) (all .1);
       same = c .loop-at .inv .1;
     }

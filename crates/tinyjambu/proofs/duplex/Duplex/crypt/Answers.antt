@@ -1,14 +1,14 @@
 use mathlib.Core.Path.{_≡_, refl, sym, ap, ap₂, _∙_}
-use Prim.Native.Nat.{_+_, _*_, _%_, _≤_, _^_}
+use Prim.Native.Nat.{_+_, _*_, _≤_, _^_}
 use native.Mathlib.Omega.{arith}
 use lib.Bits.{bitXor}
 use lib.ListN.{length, getD}
 use Rattle.tinyjambu.specs.Bytes.{joined}
 use Rattle.tinyjambu.specs.Mode.{text-run, stream}
 use Rattle.tinyjambu.specs.Duplex.{fed-byte, sealed-byte, text-of, sealed-of}
-use Rattle.tinyjambu.proofs.Histories.{text-more, sealed-part}
+use Rattle.tinyjambu.proofs.Histories.{took-more, sealed-part}
 use Rattle.tinyjambu.proofs.Joined.{all-bytes}
-use Rattle.tinyjambu.proofs.Steps.{either-length, either-small, crypted-none, crypted-all, crypted-byte-more, crypted-word-more}
+use Rattle.tinyjambu.proofs.Steps.{either-small, crypted-none, crypted-all, crypted-byte-more, crypted-word-more}
 use Rattle.tinyjambu.proofs.duplex.Duplex.crypt.Needs as need
 
 pub loop-at-holds : need.loop-at-holds
@@ -48,10 +48,9 @@ returns g c =
     let all = crypted-all (c .loop-at .inv .0) (c .loop-at-test .left) in
     let key = g .E·Engine .key (c .args .engine .now) in
     let text = text-of (c .args .direction) (c .args .input .now) (c .loop-at .out) in
-    let n : length text ≡ length (c .args .input .now) = either-length (c .args .direction) (c .args .input .now) (c .loop-at .out) (c .loop-at .inv .0 .long) in
     let small = either-small (c .args .direction) (c .args .input .now) (c .loop-at .out) (all-bytes (c .args .input .now) (c .typed .input)) (all .3) in
     record {
-      took = λ nonce ad t h. text-more key nonce ad t text _ _ _ _ h small (all .1) (all .2 ∙ ap (λ x. (c .args .self .now .filled + x) % 4) (sym n));
+      took = λ nonce ad t h. took-more h text _ _ small (all .1) (all .2);
       out = λ nonce ad t h. all .0 ∙ sealed-part key nonce ad t text _ _ h small;
       len = c .loop-at .inv .0 .long;
       same = c .loop-at .inv .1;
