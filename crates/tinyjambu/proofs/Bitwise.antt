@@ -7,6 +7,7 @@ use lib.Bits.{bitAnd, bitXor, xor-add-and, and-step, xor-shr, and-shr, and-le-l}
 use lib.Pow.{pow-pos, pow-add, shr-shr}
 use Rattle.tinyjambu.specs.Permutation.{bit}
 
+-- a bit of a number that is shifted down
 pub bit-shr : (n k j : ℕ) → bit (n / 2 ^ k) j ≡ bit n (k + j)
 bit-shr n k j = ap (λ x. x % 2) (shr-shr n k j)
 
@@ -17,9 +18,11 @@ bit-low y k n j h =
     let e : y * 2 ^ k ≡ y * 2 ^ d .0 * 2 * 2 ^ j = ap (λ x. y * 2 ^ x) (sym (d .1)) ∙ rw (pow-add, pow-suc) (omega arith) in
     rw (e, mul-add-div-right, pow-pos j, mul-add-mod-self-right)
 
+-- a bit of a number that is cut
 pub bit-mod : (n k j : ℕ) → j < k → bit (n % 2 ^ k) j ≡ bit n j
 bit-mod n k j h = sym (bit-low (n / 2 ^ k) k (n % 2 ^ k) j h) ∙ ap (λ x. bit x j) (div-add-mod' n (2 ^ k))
 
+-- xor, and and half, bit by bit
 pub bit-xor : (a b j : ℕ) → bit (bitXor a b) j ≡ (bit a j + bit b j) % 2
 bit-xor a b j = rw xor-shr (omega (arith, xor-add-and (a / 2 ^ j) (b / 2 ^ j)))
 

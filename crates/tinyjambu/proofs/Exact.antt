@@ -18,6 +18,7 @@ use Rattle.tinyjambu.specs.Laws.{Opened-exactly}
 use Rattle.tinyjambu.proofs.Walk.{flat, walked, ended, xored-undone, length-xored, text-back, state-back}
 
 module _ (key : List ℕ) where
+  -- sealing and opening as two walks over blocks with one key stream
   abbrev pub key-stream : ℕ → ℕ
   key-stream s = stream (text-run key s)
 
@@ -27,12 +28,14 @@ module _ (key : List ℕ) where
   abbrev pub open-step : ℕ → List ℕ → ℕ
   open-step s c = mark c (inject (plain-block key s c) (text-run key s))
 
+  -- each step undoes the other
   pub open-seal : (s : ℕ) (b : List ℕ) → open-step s (xored b (key-stream s)) ≡ seal-step s b
   open-seal s b = simp (xored-undone, length-xored)
 
   pub seal-open : (s : ℕ) (b : List ℕ) → seal-step s (xored b (key-stream s)) ≡ open-step s b
   seal-open s b = simp length-xored
 
+  -- the definitions are these walks
   pub ciphertext-is : (s : ℕ) (bs : List (List ℕ)) → ciphertext key s bs ≡ flat (walked key-stream seal-step s bs)
   ciphertext-is s [] = refl
   ciphertext-is s (b ∷ bs) = ap (λ r. xored b (key-stream s) ++ r) (ciphertext-is (seal-step s b) bs)
@@ -49,6 +52,7 @@ module _ (key : List ℕ) where
   plain-state-is s [] = refl
   plain-state-is s (b ∷ bs) = plain-state-is (open-step s b) bs
 
+  -- sealing what was opened, and opening what was sealed, gives it back
   pub sealed-text : (s : ℕ) (c : List ℕ) → ciphertext key s (blocks (plaintext key s (blocks c))) ≡ c
   sealed-text s c = rw (plaintext-is, ciphertext-is) (text-back key-stream open-step seal-step seal-open s c)
 
@@ -61,13 +65,16 @@ module _ (key : List ℕ) where
   pub opened-state : (s : ℕ) (t : List ℕ) → plain-state key s (blocks (ciphertext key s (blocks t))) ≡ text-state key s (blocks t)
   opened-state s t = rw (ciphertext-is, plain-state-is, text-state-is) (state-back key-stream seal-step open-step open-seal s t)
 
+-- the comparison of tags
 pub same-decides : (xs ys : List ℕ) → Decides (same xs ys) (xs ≡ ys)
 same-decides = compares-decides same (search needs)
 
+-- what a test that gave a text says
 pub some-if : {A : Type 0} (b : Bool) (x t : A) → cond b (Some x) None ≡ Some t → (b ≡ true) × (x ≡ t)
 some-if true x t e = (refl, cc)
 some-if false x t e = grind arith
 
+-- a list whose last eight items are known
 ends : (p q c : List ℕ) → p ++ q ≡ c → length q ≡ 8 → (8 ≤ length c) × (take (length c - 8) c ≡ p) × (drop (length c - 8) c ≡ q)
 ends p q c e h =
     let n = simp length-append at (ap length e) in
@@ -99,6 +106,7 @@ module _ (key : List ℕ) (s : ℕ) where
       let p = ends (ciphertext key s (blocks t)) made c e refl in
       rw (p .1, p .2, opened-text, opened-state, le-leb 8 (length c) (p .0), same-decides made made .1 refl)
 
+-- opening by the definition is exact
 pub opens-exactly : Opened-exactly
 unfolding seal opened
 opens-exactly key n ad c t = (seals key (absorbed key (begun key n) (blocks ad)) c t, opens key (absorbed key (begun key n) (blocks ad)) c t)

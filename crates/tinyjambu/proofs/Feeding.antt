@@ -55,6 +55,7 @@ module _ (run : ℕ → ℕ) where
       → sealed-bytes run 0 s (xs ++ ys) ≡ sealed-bytes run 0 s xs ++ sealed-bytes run (length xs % 4) (fed run 0 s xs) ys
   sealed-after xs ys s = sealed-append xs ys 0 s (omega arith) ∙ ap (λ n. sealed-bytes run 0 s xs ++ sealed-bytes run (n % 4) (fed run 0 s xs) ys) (zero-add (length xs))
 
+  -- as many sealed bytes as bytes
   pub length-sealed : (xs : List ℕ) (k s : ℕ) → length (sealed-bytes run k s xs) ≡ length xs
   length-sealed [] k s = refl
   length-sealed (x ∷ xs) k s = ap suc (length-sealed xs ((k + 1) % 4) (fed-byte run k s x))
@@ -77,6 +78,7 @@ stream-kept s n m =
     rw (e, xor-shr, xor-mod, shl-shr) (ap (bitXor (stream s)) (mul-mod-left (n * 2 ^ m) (2 ^ 32)) ∙ xor-zero-r (stream s))
 
 module _ (run : ℕ → ℕ) where
+  -- within a block no run is done
   inside : (j s : ℕ) → 0 < j → entered run j s ≡ s
   inside j s h = cond-false (eqb j 0) (run s) s (ne-eqb j 0 (λ e. omega arith))
 
@@ -96,6 +98,7 @@ module _ (run : ℕ → ℕ) where
   fed-block [] s h l small = absurd (omega arith)
   fed-block (b ∷ bs) s h l small = fed-rest bs b 0 (run s) (omega arith) small
 
+  -- the sealed bytes of the rest of such a block
   sealed-rest : (bs : List ℕ) (b j t : ℕ) → j + suc (length bs) ≤ 4
       → sealed-bytes run ((j + 1) % 4) (bitXor t (b * 2 ^ (96 + 8 * j))) bs ≡ xored bs (stream t / 2 ^ (8 * (j + 1)))
   sealed-rest [] b j t h = refl

@@ -15,6 +15,7 @@ use Rattle.tinyjambu.proofs.Exact.{ciphertext-is, text-state-is}
 use Rattle.tinyjambu.proofs.Feeding.{fed-after, sealed-after, length-sealed}
 use Rattle.tinyjambu.proofs.Blocks.{block-step, fed-blocks, sealed-blocks, absorbed-is}
 
+-- how far the open block is after a piece
 place-more : (t p k : ℕ) → k ≡ t % 4 → (k + p) % 4 ≡ (t + p) % 4
 place-more t p k e = omega arith
 
@@ -24,7 +25,7 @@ pub took-more : {run : ℕ → ℕ} {start : ℕ} {bs : List ℕ} {s k : ℕ} �
 took-more {run} {start} {bs} {s} {k} h p s′ k′ small e f = record {
   small = all-append (λ b. b < 256) bs p (h .small) small;
   state = e ∙ ap₂ (λ x y. fed run x y p) (h .filled) (h .state) ∙ fed-after run bs p start;
-  filled = f ∙ place-more (length bs) (length p) k (h .filled) ∙ ap (λ n. n % 4) (sym (length-append bs p))
+  filled = f ∙ place-more (length bs) (length p) k (h .filled) ∙ ap (λ n. n % 4) (sym (length-append bs p));
 }
 
 module _ (key nonce : List ℕ) where
@@ -44,6 +45,7 @@ module _ (key nonce : List ℕ) where
     abbrev start : ℕ
     start = absorbed key (begun key nonce) (blocks ad)
 
+    -- the sealed text, and the sealed form, by the walk over bytes
     sealed-is : (t : List ℕ) → All-bytes t → sealed-bytes (text-run key) 0 start t ≡ ciphertext key start (blocks t)
     sealed-is t small = sealed-blocks (text-run key) t start small ∙ sym (ciphertext-is key start (blocks t))
 

@@ -13,6 +13,7 @@ use Rattle.std.proofs.shelf.Elements.{all-from-getD}
 use Rattle.std.proofs.shelf.Lists.{drop-more}
 use Rattle.tinyjambu.specs.Bytes.{number, bytes, joined, words, word-bytes, All-bytes, All-words}
 
+-- as many bytes as were asked for
 pub length-bytes : (k n : ℕ) → length (bytes k n) ≡ k
 length-bytes zero n = refl
 length-bytes (suc k) n = ap suc (length-bytes k (n / 256))
@@ -33,12 +34,14 @@ bytes-number (b ∷ bs) h =
     let m : (b + 256 * number bs) / 256 ≡ number bs = omega arith in
     ap₂ _∷_ l (ap (bytes (length bs)) m ∙ bytes-number bs (h .1))
 
+-- a number that was cut into bytes is joined again
 pub number-bytes : (k n : ℕ) → n < 256 ^ k → number (bytes k n) ≡ n
 number-bytes zero n h = omega arith
 number-bytes (suc k) n h =
     let l : n < 256 ^ k * 256 = rw pow-suc at h in
     omega (arith, number-bytes k (n / 256) (omega arith))
 
+-- the same of words
 pub words-joined : (ws : List ℕ) → All-words ws → words (length ws) (joined ws) ≡ ws
 words-joined [] h = refl
 words-joined (w ∷ ws) h =
@@ -64,6 +67,7 @@ three ws e =
     let at : (j : ℕ) → j < 3 → drop j ws ≡ getD ws j 0 ∷ drop (suc j) ws = λ j l. drop-cons ws j 0 (omega arith) in
     cc (at 0 (omega arith), at 1 (omega arith), at 2 (omega arith), drop-of-length-le ws {i = 3} (omega arith))
 
+-- the bytes of two lists of words
 pub word-bytes-append : (xs ys : List ℕ) → word-bytes (xs ++ ys) ≡ word-bytes xs ++ word-bytes ys
 word-bytes-append [] ys = refl
 word-bytes-append (x ∷ xs) ys = ap (λ r. bytes 4 x ++ r) (word-bytes-append xs ys)
@@ -84,6 +88,7 @@ four-at xs i h =
 pub all-bytes : (bs : List ℕ) → ((i : ℕ) → Fits w8 (getD bs i 0)) → All-bytes bs
 all-bytes bs h = all-from-getD (λ b. b < 256) bs 0 (λ i l. omega (arith, h i))
 
+-- the bytes of a number are bytes
 pub all-bytes-of : (k n : ℕ) → All-bytes (bytes k n)
 all-bytes-of zero n = tt
 all-bytes-of (suc k) n = (omega arith, all-bytes-of k (n / 256))

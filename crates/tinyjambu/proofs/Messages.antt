@@ -25,10 +25,12 @@ use Rattle.tinyjambu.proofs.Histories.{sealed-part}
 abbrev pub nothing : RefT (List ℕ)
 nothing = record { ptr = (0, 0); name = 0; now = [] }
 
+-- two lists of pieces
 message-append : (ps qs : List (RefT (List ℕ))) → message (ps ++ qs) ≡ message ps ++ message qs
 message-append [] qs = refl
 message-append (p ∷ ps) qs = ap (λ m. now p ++ m) (message-append ps qs) ∙ sym (append-assoc (now p) (message ps) (message qs))
 
+-- one piece more, and all of them
 pub message-more : (ps : List (RefT (List ℕ))) (i : ℕ) → i < length ps → message (take (i + 1) ps) ≡ message (take i ps) ++ now (getD ps i nothing)
 message-more ps i h =
     ap message (take-more ps i nothing h) ∙ message-append (take i ps) (getD ps i nothing ∷ []) ∙ ap (λ m. message (take i ps) ++ m) (append-nil (now (getD ps i nothing)))
@@ -58,6 +60,7 @@ total-more ps i total next h e f =
     omega arith
 
 module _ (key nonce ad : List ℕ) where
+  -- the next piece of the associated data
   pub data-piece : (ps : List (RefT (List ℕ))) (i : ℕ) (s k : ℕ) → i < length ps
       → Took-data key nonce ((ad ++ message (take i ps)) ++ now (getD ps i nothing)) s k → Took-data key nonce (ad ++ message (take (i + 1) ps)) s k
   data-piece ps i s k h t =

@@ -31,11 +31,13 @@ module _ (key n ad : List ℕ) where
   abbrev start : ℕ
   start = absorbed key (begun key n) (blocks ad)
 
+  -- the definition of opening, written out
   opened-is : (c : List ℕ) → opened key n ad c
       ≡ cond (leb 8 (length c) && same (tag key (plain-state key start (blocks (take (length c - 8) c)))) (drop (length c - 8) c)) (Some (plaintext key start (blocks (take (length c - 8) c)))) None
   unfolding opened
   opened-is c = refl
 
+  -- the two parts of a sealed form
   text-part : (t : List ℕ) → sealed-piece key n ad [] t ≡ ciphertext key start (blocks t)
   unfolding seal
   text-part t = take-at (ciphertext key start (blocks t)) (tag key (text-state key start (blocks t))) (length t) (ciphertext-length key start t)
@@ -123,6 +125,7 @@ pub none-taken : (b : Bool) (r : Refusal) (rest : Option Refusal) → cond b res
 none-taken true r rest e = (refl, e)
 none-taken false r rest e = let z : _≡_ {A = ℕ} 0 1 = cc in absurd (omega arith)
 
+-- a text that passed the checks is within the limit
 pub open-check-short : (n ad c room : ℕ) → open-check n ad c room ≡ None → c - 8 ≤ longest
 open-check-short n ad c room e =
     let p = none-taken (eqb n 12) NonceLength _ e in

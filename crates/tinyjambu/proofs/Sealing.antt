@@ -9,6 +9,7 @@ use Rattle.tinyjambu.specs.Mode.{seal, blocks, ciphertext, mark, inject, text-
 use Rattle.tinyjambu.specs.History.{sealed-piece, sealed-tag}
 use Rattle.tinyjambu.proofs.Exact.{opens-exactly}
 
+-- the sealed text is as long as the text
 pub ciphertext-length : (key : List ℕ) (s : ℕ) (t : List ℕ) → length (ciphertext key s (blocks t)) ≡ length t
 ciphertext-length key s [] = refl
 ciphertext-length key s (a ∷ []) = refl
@@ -16,10 +17,12 @@ ciphertext-length key s (a ∷ b ∷ []) = refl
 ciphertext-length key s (a ∷ b ∷ c ∷ []) = refl
 ciphertext-length key s (a ∷ b ∷ c ∷ d ∷ rest) = ap (λ n. suc (suc (suc (suc n)))) (ciphertext-length key (mark (a ∷ b ∷ c ∷ d ∷ []) (inject (a ∷ b ∷ c ∷ d ∷ []) (text-run key s))) rest)
 
+-- the sealed form is 8 bytes longer
 pub seal-length : (key n ad t : List ℕ) → length (seal key n ad t) ≡ length t + 8
 unfolding seal
 seal-length key n ad t = rw (length-append, ciphertext-length)
 
+-- no two texts have one sealed form
 pub seal-one : (key n ad t u : List ℕ) → seal key n ad t ≡ seal key n ad u → t ≡ u
 seal-one key n ad t u e =
     let p = opens-exactly key n ad (seal key n ad u) t .1 e in

@@ -37,13 +37,15 @@ module _ {run : ℕ → ℕ} {k s at : ℕ} {piece : List ℕ} {state filled : �
         within = l;
         few = h .few;
         is = p ∙ ap₂ (λ x y. fed run x y part) fed-place (h .is) ∙ sym (ap (fed run k s) e ∙ fed-append run (take at piece) part k s (h .few));
-        place = omega arith
+        place = omega arith;
       }
 
+  -- one byte more
   pub fed-byte-more : (next after : ℕ) → at < length piece → next ≡ fed-byte run filled state (getD piece at 0) → after ≡ (filled + 1) % 4
       → Fed run k s (at + 1) piece next after
   fed-byte-more next after l = fed-more piece (getD piece at 0 ∷ []) 1 next after (omega arith) (take-more piece at 0 l)
 
+  -- a full block more
   pub fed-word-more : (next after : ℕ) → All-bytes piece → at + 4 ≤ length piece → filled ≡ 0 → next ≡ bitXor (run state) (number (take 4 (drop at piece)) * 2 ^ 96) → after ≡ 0
       → Fed run k s (at + 4) piece next after
   fed-word-more next after small l e p q =
@@ -77,6 +79,7 @@ either-more : (d : Direction) (input out next part other : List ℕ) (at n : ℕ
 either-more Sealing input out next part other at n p q = (p, q)
 either-more Opening input out next part other at n p q = (q, p)
 
+-- text and sealed text are as long as the input, and bytes if both are
 pub either-length : (d : Direction) (input out : List ℕ) → length out ≡ length input → length (text-of d input out) ≡ length input
 either-length Sealing input out e = refl
 either-length Opening input out e = e
@@ -89,6 +92,7 @@ other-length : (d : Direction) (input out : List ℕ) → length out ≡ length 
 other-length Sealing input out e = e
 other-length Opening input out e = refl
 
+-- one byte
 single : (d : Direction) (x r : ℕ) → (text-of d (x ∷ []) (r ∷ []) ≡ text-of d x r ∷ []) × (sealed-of d (x ∷ []) (r ∷ []) ≡ sealed-of d x r ∷ [])
 single Sealing x r = (refl, refl)
 single Opening x r = (refl, refl)
@@ -141,9 +145,10 @@ module _ {run : ℕ → ℕ} {k s at : ℕ} {d : Direction} {input out : List �
         made = both .1 ∙ ap₂ _++_ (h .made) (made ∙ ap₂ (λ x y. sealed-bytes run x y more) (fed-place (h .fed)) (h .fed .is))
             ∙ sym (ap (sealed-bytes run k s) (both .0) ∙ sealed-append run text more k s (h .fed .few));
         long = long;
-        small = rw q (all-append (λ b. b < 256) (take at out) other (h .small) small)
+        small = rw q (all-append (λ b. b < 256) (take at out) other (h .small) small);
       }
 
+  -- one byte more
   pub crypted-byte-more : (r after place : ℕ) → at < length input → r < 256 → after ≡ fed-byte run filled state (text-of d (getD input at 0) r) → place ≡ (filled + 1) % 4
       → sealed-of d (getD input at 0) r ≡ sealed-byte run filled state (text-of d (getD input at 0) r)
       → Crypted run k s (at + 1) d input (set out at r) after place
@@ -154,6 +159,7 @@ module _ {run : ℕ → ℕ} {k s at : ℕ} {d : Direction} {input out : List �
       crypted-more (x ∷ []) (r ∷ []) (set out at r) 1 after place (omega arith) (take-more input at 0 l) (take-more-set out at r (omega arith)) (length-set out at r ∙ long) (small, tt)
       (a ∙ ap (fed run filled state) (sym (one .0))) b (one .1 ∙ ap (λ y. y ∷ []) made ∙ ap (sealed-bytes run filled state) (sym (one .0)))
 
+  -- a full block more
   pub crypted-word-more : (r after place : ℕ) (next : List ℕ) → All-bytes input → at + 4 ≤ length input → r < 2 ^ 32 → filled ≡ 0 → next ≡ take at out ++ (bytes 4 r ++ drop (at + 4) out)
       → after ≡ bitXor (run state) (text-of d (number (take 4 (drop at input))) r * 2 ^ 96) → place ≡ 0
       → sealed-of d (number (take 4 (drop at input))) r ≡ bitXor (text-of d (number (take 4 (drop at input))) r) (stream (run state))
@@ -183,6 +189,9 @@ crypted-all {run} {k} {s} {at} {d} {input} {out} h l =
     let long : length out ≡ length input = h .long in
     let n : length (text-of d input out) ≡ length input = either-length d input out long in
     let all = fed-all (h .fed) (omega arith) in
-    let whole : (xs : List ℕ) → length xs ≡ length input → take at xs ≡ xs = λ xs e. take-all at xs (omega arith) in
-    (sym (whole (sealed-of d input out) (other-length d input out long)) ∙ h .made ∙ ap (sealed-bytes run k s) (whole (text-of d input out) n),
-    all .0, all .1, rw (whole out long) at (h .small))
+    let whole : (xs : List ℕ) → length xs ≡ length input → take at xs ≡ xs = λ xs e. take-all at xs (omega arith) in (
+      sym (whole (sealed-of d input out) (other-length d input out long)) ∙ h .made ∙ ap (sealed-bytes run k s) (whole (text-of d input out) n),
+      all .0,
+      all .1,
+      rw (whole out long) at (h .small),
+    )

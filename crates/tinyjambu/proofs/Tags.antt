@@ -12,6 +12,7 @@ use Rattle.std.proofs.shelf.Tests.{eqb-true, eq-eqb}
 use Rattle.tinyjambu.specs.Mode.{same}
 use Rattle.tinyjambu.proofs.Exact.{same-decides}
 
+-- an or, and a xor, that leave nothing
 or-none : (a b : ℕ) → bitOr a b ≡ 0 → (a ≡ 0) × (b ≡ 0)
 or-none a b e = (omega (arith, or-add-and a b, and-le-l a b, and-le-r a b), omega (arith, or-add-and a b, and-le-l a b, and-le-r a b))
 
@@ -31,6 +32,7 @@ tag-more xs ys i d h l there back = (
       ap₂ bitOr (back front) (ap (λ x. bitXor x (getD ys i 0)) last ∙ xor-self (getD ys i 0)),
 )
 
+-- two tests that say the same
 both : (b c : Bool) → (b ≡ true → c ≡ true) → (c ≡ true → b ≡ true) → b ≡ c
 both true c f g = sym (f refl)
 both false true f g = g refl

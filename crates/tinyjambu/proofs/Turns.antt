@@ -23,6 +23,7 @@ pub record Stands (ws : List ℕ) (u s q at a b c d : ℕ) : Type 0 where
   pub small : All-words (a ∷ b ∷ c ∷ d ∷ [])
   pub state : rounds (key-of ws u) (q * 32) s ≡ joined (a ∷ b ∷ c ∷ d ∷ [])
 
+-- thirty-two rounds more
 pub turn : {ws : List ℕ} {u s q at a b c d next r : ℕ} → Stands ws u s q at a b c d
     → Brings (joined (a ∷ b ∷ c ∷ d ∷ [])) (getD ws at 0) r → r < 2 ^ 32 → next ≡ (at + 1) % u → next < u
     → Stands ws u s (q + 1) next b c d r

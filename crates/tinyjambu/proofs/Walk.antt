@@ -6,6 +6,7 @@ use lib.ListN.{length}
 use lib.Bits.{bitXor, xor-assoc, xor-self, xor-zero-r}
 use Rattle.tinyjambu.specs.Mode.{xored, blocks}
 
+-- xor undoes itself: a number, and a block
 pub xor-undone : (a b : ℕ) → bitXor (bitXor a b) b ≡ a
 xor-undone a b = xor-assoc a b b ∙ ap (bitXor a) (xor-self b) ∙ xor-zero-r a
 
@@ -13,10 +14,12 @@ pub xored-undone : (b : List ℕ) (n : ℕ) → xored (xored b n) n ≡ b
 xored-undone [] n = refl
 xored-undone (x ∷ b) n = let e = xor-undone x (n % 256) in let r = xored-undone b (n / 256) in cc
 
+-- a block keeps its length
 pub length-xored : (b : List ℕ) (n : ℕ) → length (xored b n) ≡ length b
 length-xored [] n = refl
 length-xored (x ∷ b) n = ap suc (length-xored b (n / 256))
 
+-- blocks put together again
 abbrev pub flat : List (List ℕ) → List ℕ
 flat [] = []
 flat (b ∷ bs) = b ++ flat bs
@@ -28,15 +31,18 @@ flat-blocks (a ∷ b ∷ []) = refl
 flat-blocks (a ∷ b ∷ c ∷ []) = refl
 flat-blocks (a ∷ b ∷ c ∷ d ∷ t) = ap (λ r. a ∷ b ∷ c ∷ d ∷ r) (flat-blocks t)
 
+-- where a walk ends
 abbrev pub ended : (ℕ → List ℕ → ℕ) → ℕ → List (List ℕ) → ℕ
 ended step s [] = s
 ended step s (b ∷ bs) = ended step (step s b) bs
 
 module _ (f : ℕ → ℕ) (step : ℕ → List ℕ → ℕ) where
+  -- the blocks that a walk gives
   abbrev pub walked : ℕ → List (List ℕ) → List (List ℕ)
   walked s [] = []
   walked s (b ∷ bs) = xored b (f s) ∷ walked (step s b) bs
 
+  -- they are blocks again
   pub blocks-walked : (s : ℕ) (t : List ℕ) → blocks (flat (walked s (blocks t))) ≡ walked s (blocks t)
   blocks-walked s [] = refl
   blocks-walked s (a ∷ []) = refl
