@@ -1,11 +1,11 @@
 -- Bytes one after another, with the last block marked, are the blocks of the definition.
-use Prim.Native.Nat.{ℕ, suc, _+_, _*_, _%_, _^_, _<_, _≤_}
-use mathlib.Core.Path.{_≡_, refl, sym, ap, ap₂, _∙_}
+use Prim.Native.Nat.{ℕ, suc, _%_}
+use mathlib.Core.Path.{_≡_, refl, ap, ap₂, _∙_}
 use mathlib.Core.List.{List, [], _∷_, _++_}
 use native.Mathlib.Omega.{arith}
 use lib.ListN.{length}
 use Rattle.tinyjambu.specs.Bytes.{All-bytes}
-use Rattle.tinyjambu.specs.Mode.{stream, mark, inject, xored, blocks, data-run, absorbed}
+use Rattle.tinyjambu.specs.Mode.{stream, mark, inject, blocks, data-run, absorbed}
 use Rattle.tinyjambu.specs.Duplex.{fed, sealed-bytes, closed}
 use Rattle.tinyjambu.proofs.Feeding.{fed-block, sealed-block}
 use Rattle.tinyjambu.proofs.Walk.{flat, walked, ended}

@@ -1,13 +1,13 @@
 -- What is written at the start of an out buffer.
 use Prim.Native.Nat.{ℕ, _+_, _-_, _≤_}
-use mathlib.Core.Path.{_≡_, refl, sym, ap, ap₂, _∙_}
+use mathlib.Core.Path.{_≡_, sym, ap, ap₂, _∙_}
 use mathlib.Core.List.{List, _++_, append-assoc}
 use native.Mathlib.Omega.{arith}
-use lib.ListN.{length, take, drop, length-drop}
+use lib.ListN.{length, drop, length-drop}
 use borrow.Rule.Slice.PartMut.{putMid}
 use Rattle.std.proofs.shelf.Lists.{length-append, take-at, drop-at, drop-drop}
 use Rattle.std.specs.declared.option.Option.the-variants.{None}
-use Rattle.std.proofs.shelf.Tests.{cond-false, cond-true, le-ltb}
+use Rattle.std.proofs.shelf.Tests.{cond-false, le-ltb}
 use Rattle.tinyjambu.specs.Answers.{written, longest, message-check}
 
 -- after a write to the first n bytes

@@ -1,19 +1,18 @@
 -- What a duplex has taken, one call after another, and what is sealed meanwhile.
 use Prim.Native.Nat.{ℕ, _+_, _%_, _<_}
-use mathlib.Core.Path.{_≡_, refl, sym, ap, ap₂, _∙_}
-use mathlib.Core.List.{List, [], _∷_, _++_, append-assoc}
+use mathlib.Core.Path.{_≡_, sym, ap, ap₂, _∙_}
+use mathlib.Core.List.{List, [], _++_, append-assoc}
 use native.Mathlib.Omega.{arith}
 use lib.ListN.{length, take, drop, length-append}
 use Rattle.std.proofs.shelf.Elements.{all-append}
 use Rattle.std.proofs.shelf.Lists.{take-at, drop-at}
 use Rattle.tinyjambu.specs.Bytes.{All-bytes}
-use Rattle.tinyjambu.specs.Mode.{begun, blocks, absorbed, data-run, text-run, text-state, ciphertext, tag, seal, stream}
+use Rattle.tinyjambu.specs.Mode.{begun, blocks, absorbed, data-run, text-run, text-state, ciphertext, tag, seal}
 use Rattle.tinyjambu.specs.Duplex.{fed, sealed-bytes, closed}
 use Rattle.tinyjambu.specs.History.{Took, Took-data, Took-text, sealed-piece, sealed-tag}
-use Rattle.tinyjambu.proofs.Walk.{flat, walked, ended}
 use Rattle.tinyjambu.proofs.Exact.{ciphertext-is, text-state-is}
 use Rattle.tinyjambu.proofs.Feeding.{fed-after, sealed-after, length-sealed}
-use Rattle.tinyjambu.proofs.Blocks.{block-step, fed-blocks, sealed-blocks, absorbed-is}
+use Rattle.tinyjambu.proofs.Blocks.{fed-blocks, sealed-blocks, absorbed-is}
 
 -- how far the open block is after a piece
 place-more : (t p k : ℕ) → k ≡ t % 4 → (k + p) % 4 ≡ (t + p) % 4

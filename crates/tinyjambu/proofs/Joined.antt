@@ -1,10 +1,10 @@
 -- Bytes and words joined to a number, and taken out of it again.
 use Prim.Native.Nat.{ℕ, zero, suc, _+_, _*_, _/_, _%_, _^_, _<_, _≤_}
-use mathlib.Core.Path.{_≡_, refl, sym, ap, ap₂, _∙_}
-use mathlib.Core.List.{List, [], _∷_, _++_, append-assoc}
+use mathlib.Core.Path.{_≡_, refl, ap, ap₂, _∙_}
+use mathlib.Core.List.{List, [], _∷_, _++_}
 use native.Mathlib.Nat.{pow-suc}
 use native.Mathlib.Omega.{arith}
-use lib.ListN.{length, getD, take, drop, drop-of-length-le, length-append}
+use lib.ListN.{length, getD, take, drop, drop-of-length-le}
 use lib.Pow.{shr-shr}
 use lib.Seq.{drop-cons}
 use mir.Syntax.{w8}

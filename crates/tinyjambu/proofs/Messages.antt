@@ -17,7 +17,7 @@ use Rattle.tinyjambu.specs.Bytes.{All-bytes}
 use Rattle.tinyjambu.specs.History.{Took-data, Took-text, sealed-piece}
 use Rattle.tinyjambu.specs.Message.{message}
 use Rattle.tinyjambu.specs.Mode.{begun, blocks, absorbed, text-run}
-use Rattle.tinyjambu.specs.Duplex.{fed, sealed-bytes}
+use Rattle.tinyjambu.specs.Duplex.{fed}
 use Rattle.tinyjambu.proofs.Feeding.{sealed-after}
 use Rattle.tinyjambu.proofs.Histories.{sealed-part}
 

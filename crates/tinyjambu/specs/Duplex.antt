@@ -2,7 +2,6 @@
 -- when its first byte comes, and what is left of the last block is marked when the phase ends.
 -- Here s is the state, k the number of bytes in the open block, and `run` what a phase does to the state before each block.
 use Prim.Native.Nat.{ℕ, _+_, _*_, _/_, _%_, _^_}
-use mathlib.Core.Path.{_≡_}
 use mathlib.Core.List.{List, [], _∷_}
 use mathlib.Core.Bool.{cond}
 use lib.Bits.{bitXor}

@@ -1,6 +1,5 @@
 -- TinyJAMBU as authenticated encryption with associated data, over lists of bytes, as its designers define it (version 2).
 -- A state is a number of 128 bits, bit j being s_j.
-use mathlib.Core.Path.{_≡_}
 use Prim.Native.Nat.{ℕ, _+_, _-_, _*_, _/_, _%_, _^_}
 use mathlib.Core.List.{List, [], _∷_, _++_}
 use mathlib.Core.Bool.{Bool, true, false, cond, _&&_}

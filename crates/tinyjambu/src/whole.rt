@@ -1,14 +1,11 @@
 ghost use mathlib.Core.Path.{_≡_};
-ghost use mathlib.Core.List.{List, [], _∷_};
 ghost use mathlib.Core.Bool.{true, false, cond};
-ghost use Prim.Native.Nat.{ℕ, _-_, _+_, _≤_};
-ghost use lib.Dec.{eqb};
-ghost use lib.ListN.{length, drop, take};
+ghost use Prim.Native.Nat.{_+_};
+ghost use lib.ListN.{length};
 ghost use Rattle.std.specs.Results.{isOk};
 ghost use Rattle.std.specs.declared.option.Option.the-variants.{Some, None};
 ghost use Rattle.tinyjambu.specs.Answers.{seal-answer, seal-out, open-answer, open-out};
 ghost use Rattle.tinyjambu.specs.Bytes.{word-bytes};
-ghost use Rattle.tinyjambu.specs.History.{sealed-piece, sealed-tag};
 ghost use Rattle.tinyjambu.specs.Message.{nonce-words};
 ghost use Rattle.tinyjambu.specs.Mode.{seal, opened, same};
 ghost use Rattle.tinyjambu.specs.Laws.{Opens-exactly};

@@ -1,7 +1,7 @@
 ghost use mathlib.Core.Path.{_≡_};
-ghost use mathlib.Core.List.{[], _∷_, map};
+ghost use mathlib.Core.List.{[], _∷_};
 ghost use Prim.Native.Nat.{_+_, _*_, _/_, _%_, _^_, _<_, _≤_};
-ghost use lib.ListN.{length, getD};
+ghost use lib.ListN.{length};
 ghost use Rattle.tinyjambu.specs.Permutation.{rounds};
 ghost use Rattle.tinyjambu.specs.Bytes.{joined, words};
 ghost use Rattle.tinyjambu.specs.Keys.{key-of, key-of-sized};

@@ -1,8 +1,8 @@
-use mathlib.Core.Path.{_≡_, ap, ap₂, _∙_}
-use mathlib.Core.List.{List, [], _∷_, _++_}
-use Prim.Native.Nat.{ℕ, _+_, _-_, _/_, _%_}
+use mathlib.Core.Path.{_≡_, ap₂, _∙_}
+use mathlib.Core.List.{[], _∷_, _++_}
+use Prim.Native.Nat.{_+_, _-_, _/_, _%_}
 use native.Mathlib.Omega.{arith}
-use lib.ListN.{take, drop}
+use lib.ListN.{take}
 use Rattle.std.proofs.shelf.Lists.{drop-drop}
 use Rattle.tinyjambu.specs.Bytes.{bytes}
 use Rattle.tinyjambu.proofs.little_endian.store.Needs as need

@@ -1,15 +1,14 @@
 use mathlib.Core.Path.{_≡_, refl, sym, ap, _∙_}
 use mathlib.Core.List.{List, _++_}
-use Prim.Native.Nat.{ℕ, _+_, _-_, _≤_}
+use Prim.Native.Nat.{ℕ, _+_, _≤_}
 use native.Mathlib.Omega.{arith}
 use denote.Ref.{now}
 use lib.ListN.{length, getD, take, length-append}
 use Rattle.std.proofs.shelf.Lists.{take-all}
 use Rattle.tinyjambu.specs.Bytes.{joined}
-use Rattle.tinyjambu.specs.Duplex.{text-of, sealed-of}
 use Rattle.tinyjambu.specs.History.{Took-text, sealed-piece}
 use Rattle.tinyjambu.specs.Message.{message}
-use Rattle.tinyjambu.proofs.Messages.{nothing, message-more, message-within, message-all, end-within, text-piece}
+use Rattle.tinyjambu.proofs.Messages.{nothing, message-more, message-all, end-within, text-piece}
 use Rattle.tinyjambu.proofs.pieces.crypt_pieces.Needs as need
 
 pub add-end : need.add-end

@@ -1,4 +1,4 @@
-use mathlib.Core.Path.{_≡_, refl, sym, ap, ap₂, _∙_}
+use mathlib.Core.Path.{_≡_, sym, ap, ap₂, _∙_}
 use mathlib.Core.List.{List, [], _++_}
 use mathlib.Core.Bool.{cond}
 use Prim.Native.Nat.{ℕ, _+_, _-_}
@@ -8,7 +8,7 @@ use Rattle.std.proofs.shelf.Lists.{take-all}
 use Rattle.std.specs.declared.option.Option.the-variants.{Some, None}
 use Rattle.tinyjambu.specs.Bytes.{joined, word-bytes}
 use Rattle.tinyjambu.specs.History.{Took-data, Took-text, sealed-piece, sealed-tag}
-use Rattle.tinyjambu.specs.Mode.{opened, same}
+use Rattle.tinyjambu.specs.Mode.{same}
 use Rattle.tinyjambu.proofs.Opening.{recovered}
 use Rattle.tinyjambu.proofs.whole.recover.Needs as need
 

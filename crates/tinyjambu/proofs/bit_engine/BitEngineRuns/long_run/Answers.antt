@@ -1,7 +1,6 @@
-use mathlib.Core.Path.{_≡_, refl, sym, ap, _∙_}
+use mathlib.Core.Path.{refl, ap, _∙_}
 use Prim.Native.Nat.{_+_, _*_}
 use Rattle.tinyjambu.specs.Permutation.{rounds}
-use Rattle.tinyjambu.specs.Mode.{long-rounds}
 use Rattle.tinyjambu.specs.Bytes.{joined, words}
 use Rattle.tinyjambu.specs.Keys.{key-of}
 use Rattle.tinyjambu.proofs.Keys.{long-by-words}

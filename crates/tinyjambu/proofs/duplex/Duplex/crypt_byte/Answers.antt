@@ -1,9 +1,8 @@
-use mathlib.Core.Path.{_≡_, ap, ap₂, sym, _∙_}
+use mathlib.Core.Path.{ap, ap₂, _∙_}
 use Prim.Native.Nat.{_+_, _*_, _/_, _%_, _^_}
 use lib.Bits.{bitXor}
 use Rattle.tinyjambu.specs.Bytes.{joined}
-use Rattle.tinyjambu.specs.Mode.{text-run}
-use Rattle.tinyjambu.specs.Duplex.{entered, text-of}
+use Rattle.tinyjambu.specs.Duplex.{text-of}
 use Rattle.tinyjambu.proofs.Feeding.{either-way}
 use Rattle.tinyjambu.proofs.duplex.Duplex.crypt_byte.Needs as need
 

@@ -1,8 +1,7 @@
-use mathlib.Core.Path.{_≡_, ap, ap₂, sym, _∙_}
-use Prim.Native.Nat.{_+_, _*_, _/_, _%_, _^_}
+use mathlib.Core.Path.{ap, ap₂, _∙_}
+use Prim.Native.Nat.{_*_, _^_}
 use lib.Bits.{bitXor}
-use Rattle.tinyjambu.specs.Bytes.{joined}
-use Rattle.tinyjambu.specs.Mode.{text-run, stream}
+use Rattle.tinyjambu.specs.Mode.{stream}
 use Rattle.tinyjambu.specs.Duplex.{text-of}
 use Rattle.tinyjambu.proofs.Feeding.{either-way}
 use Rattle.tinyjambu.proofs.duplex.Duplex.crypt_word.Needs as need

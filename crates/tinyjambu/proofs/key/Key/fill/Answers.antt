@@ -1,11 +1,11 @@
 use mathlib.Core.Path.{_≡_, sym, ap, _∙_}
 use mathlib.Core.Bool.{true}
 use native.Mathlib.Omega.{arith}
-use Prim.Native.Nat.{ℕ, _*_, _/_, _%_, _≤_}
-use lib.ListN.{length, set, take, length-set}
+use Prim.Native.Nat.{_*_, _/_}
+use lib.ListN.{length, length-set}
 use Rattle.std.proofs.shelf.Lists.{take-all}
 use Rattle.std.proofs.shelf.Tests.{cond-true, true≢false}
-use Rattle.tinyjambu.specs.Keys.{key-of, is-key-size}
+use Rattle.tinyjambu.specs.Keys.{key-of}
 use Rattle.tinyjambu.proofs.Joined.{all-bytes}
 use Rattle.tinyjambu.proofs.Keys.{key-size-true, filled-more}
 use Rattle.tinyjambu.proofs.key.Key.fill.Needs as need

@@ -1,10 +1,7 @@
-use mathlib.Core.Path.{_≡_, sym, ap, ap₂, _∙_}
-use mathlib.Core.List.{_++_}
+use mathlib.Core.Path.{sym, ap, _∙_}
 use Prim.Native.Nat.{_+_}
 use lib.ListN.{length, length-append}
 use Rattle.std.proofs.shelf.Tests.{cond-false, true≢false}
-use Rattle.tinyjambu.specs.History.{Took-data}
-use Rattle.tinyjambu.specs.Bytes.{joined}
 use Rattle.tinyjambu.proofs.session.Session.absorb.Needs as need
 
 pub returns : need.returns

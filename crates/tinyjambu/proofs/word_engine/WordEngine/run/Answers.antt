@@ -1,13 +1,12 @@
 use mathlib.Core.Path.{_≡_, refl, sym, ap, _∙_}
 use mathlib.Core.List.{[], _∷_}
-use Prim.Native.Nat.{ℕ, _+_, _*_, _<_}
+use Prim.Native.Nat.{_+_, _*_}
 use native.Mathlib.Omega.{arith}
 use native.Mathlib.Nat.{zero-mod}
-use lib.ListN.{getD}
 use Rattle.tinyjambu.specs.Permutation.{rounds}
 use Rattle.tinyjambu.specs.Bytes.{joined, words}
 use Rattle.tinyjambu.specs.Keys.{key-of}
-use Rattle.tinyjambu.specs.Turns.{Brings, flip, flipped, flipped-stored}
+use Rattle.tinyjambu.specs.Turns.{flipped, flipped-stored}
 use Rattle.tinyjambu.proofs.Joined.{words-joined, four}
 use Rattle.tinyjambu.proofs.Turns.{turn-flipped}
 use Rattle.tinyjambu.proofs.word_engine.WordEngine.run.Needs as need
