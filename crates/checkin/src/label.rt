@@ -31,7 +31,12 @@ pub struct Label {
 
 impl Label {
     // Seals a revision: writes the sealed form at the start of `out`, and answers its length.
-    pub(crate) fn seal<E: Engine>(self, engine: &mut E, text: &[u8], out: &mut [u8]) -> Result<usize, Fault>
+    pub(crate) fn seal<E: Engine>(
+        self,
+        engine: &mut E,
+        text: &[u8],
+        out: &mut [u8],
+    ) -> Result<usize, Fault>
         ensures answer { λ r. ⌜ r ≡ seal-answer (nonce-of self) (data-of self) (now (text .entry)) (now (out .entry)) ⌝ }
         ensures out { λ _. ⌜ now (out .exit) ≡ seal-out (key (now (engine .entry))) (nonce-of self) (data-of self) (now (text .entry)) (now (out .entry)) ⌝ }
     {
@@ -41,7 +46,12 @@ impl Label {
     }
 
     // Opens a sealed revision: writes it at the start of `out`, and answers its length. A refusal leaves only zeros in `out`.
-    pub(crate) fn open<E: Engine>(self, engine: &mut E, sealed: &[u8], out: &mut [u8]) -> Result<usize, Fault>
+    pub(crate) fn open<E: Engine>(
+        self,
+        engine: &mut E,
+        sealed: &[u8],
+        out: &mut [u8],
+    ) -> Result<usize, Fault>
         ensures answer { λ r. ⌜ r ≡ open-answer (key (now (engine .entry))) (nonce-of self) (data-of self) (now (sealed .entry)) (now (out .entry)) ⌝ }
         ensures out { λ _. ⌜ now (out .exit) ≡ open-out (key (now (engine .entry))) (nonce-of self) (data-of self) (now (sealed .entry)) (now (out .entry)) ⌝ }
     {

@@ -4,6 +4,7 @@ mod label;
 mod nonce;
 mod sealed_bytes;
 mod studio_key;
+
 use crate::alteration::altered;
 use crate::failures::failure;
 use crate::label::Kind;
@@ -25,7 +26,9 @@ use tinyjambu::WordEngine;
 use tinyjambu::WordEngineRuns;
 
 const KEY_FILE: &str = "studio.key";
+
 const SCENE_FILE: &str = "scene.txt";
+
 const SEALED_FILE: &str = "scene.sealed";
 
 // What the scene is sealed under. The studio's key must meet no nonce twice.
@@ -67,7 +70,10 @@ fn check_in(rt: &LibcRuntime, key: Key, scene: &[u8]) -> Result<(), AnyError> {
         return Err(failure(heap, SEALED_FILE, error));
     }
     let len = sealed.len();
-    println!(rt, "{SEALED_FILE}: sealed with the word engine and written, {len} bytes")?;
+    println!(
+        rt,
+        "{SEALED_FILE}: sealed with the word engine and written, {len} bytes"
+    )?;
     let Some(tag) = tag_of(&sealed) else {
         return Err("the sealed file has no tag".into());
     };
@@ -89,7 +95,10 @@ fn check_out(rt: &LibcRuntime, key: Key, scene: &[u8], sealed: &[u8]) -> Result<
     if len != scene.len() || opened != scene {
         return Err("the sealed file does not open to the scene".into());
     }
-    println!(rt, "{SEALED_FILE}: what it holds is {SCENE_FILE}, byte for byte")?;
+    println!(
+        rt,
+        "{SEALED_FILE}: what it holds is {SCENE_FILE}, byte for byte"
+    )?;
     Ok(())
 }
 
@@ -99,7 +108,10 @@ fn check_altered(rt: &LibcRuntime, key: Key, sealed: &mut [u8]) -> Result<(), An
     let Some(at) = altered(sealed) else {
         return Err("the sealed file is empty".into());
     };
-    println!(rt, "{SEALED_FILE}: byte {at} of what was read is altered by its lowest bit")?;
+    println!(
+        rt,
+        "{SEALED_FILE}: byte {at} of what was read is altered by its lowest bit"
+    )?;
     let mut out = vec![in heap; 0xaau8; sealed.len()]?;
     let len = out.len();
     let mut engine = BitEngine::new(key);

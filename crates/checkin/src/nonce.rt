@@ -18,6 +18,19 @@ impl Nonce {
         let n = self.name.to_le_bytes();
         let f = self.floor.to_le_bytes();
         let e = self.entry.to_le_bytes();
-        [n[0], n[1], n[2], n[3], f[0], f[1], f[2], f[3], e[0], e[1], e[2], e[3]]
+        [
+            n[0],
+            n[1],
+            n[2],
+            n[3],
+            f[0],
+            f[1],
+            f[2],
+            f[3],
+            e[0],
+            e[1],
+            e[2],
+            e[3],
+        ]
     }
 }

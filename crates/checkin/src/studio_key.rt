@@ -17,11 +17,13 @@ pub enum KeyFault {
 
 pub impl fmt::Display for KeyFault as KeyFaultDisplay {
     fn fmt<W: fmt::Write>(&self, f: &mut fmt::Formatter<W>) -> fmt::Result {
-        f.write_str(match self {
-            KeyFault::NotOneLine => "not one line of 32 hexadecimal digits",
-            KeyFault::NotDigits => "a character of the key is no hexadecimal digit",
-            KeyFault::NoMemory => "no memory for the key",
-        })
+        f.write_str(
+            match self {
+                KeyFault::NotOneLine => "not one line of 32 hexadecimal digits",
+                KeyFault::NotDigits => "a character of the key is no hexadecimal digit",
+                KeyFault::NoMemory => "no memory for the key",
+            },
+        )
     }
 }
 

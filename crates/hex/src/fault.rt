@@ -15,11 +15,13 @@ pub enum HexFault {
 
 pub impl fmt::Display for HexFault as HexFaultDisplay {
     fn fmt<W: fmt::Write>(&self, f: &mut fmt::Formatter<W>) -> fmt::Result {
-        f.write_str(match self {
-            HexFault::OddLength => "the number of hexadecimal digits is odd",
-            HexFault::NotADigit => "a character is no hexadecimal digit",
-            HexFault::NoMemory => "no memory for the bytes",
-        })
+        f.write_str(
+            match self {
+                HexFault::OddLength => "the number of hexadecimal digits is odd",
+                HexFault::NotADigit => "a character is no hexadecimal digit",
+                HexFault::NoMemory => "no memory for the bytes",
+            },
+        )
     }
 }
 

@@ -1,6 +1,7 @@
 mod digits;
 mod fault;
 mod shown;
+
 pub use digits::decode;
 pub use fault::HexFault;
 pub use fault::HexFaultDebug;

@@ -55,6 +55,11 @@ joined-words (suc k) n h =
     let l : n < (2 ^ 32) ^ k * 2 ^ 32 = rw pow-suc at h in
     omega (arith, joined-words k (n / 2 ^ 32) (omega arith))
 
+-- the words of a number are words
+pub words-small : (k n : ℕ) → All-words (words k n)
+words-small zero n = tt
+words-small (suc k) n = (omega arith, words-small k (n / 2 ^ 32))
+
 -- a list of four, item by item
 pub four : (ws : List ℕ) → length ws ≡ 4 → getD ws 0 0 ∷ getD ws 1 0 ∷ getD ws 2 0 ∷ getD ws 3 0 ∷ [] ≡ ws
 four ws e =

@@ -22,18 +22,18 @@ impl BitEngine {
         BitEngine { key }
     }
 
-    // The state after `count` rounds.
-    fn run(&self, state: [u32; 4], count: u32) -> [u32; 4]
-        ensures { λ r. ⌜ r ≡ words 4 (rounds (key-of (now (self .entry) .key .words) (now (self .entry) .key .used)) count (joined state)) ⌝ }
+    // The state after `count` rounds, as a number.
+    fn run(&self, state: u128, count: u32) -> u128
+        ensures { λ r. ⌜ r ≡ rounds (key-of (now (self .entry) .key .words) (now (self .entry) .key .used)) count state ⌝ }
     {
-        let mut s = as_number(state);
+        let mut s = state;
         for i in 0..count {
             s = bit_round(
                 s,
                 self.key.word((i / 32) as usize % self.key.used()) >> (i % 32),
             );
         }
-        as_words(s)
+        s
     }
 }
 
@@ -51,10 +51,10 @@ pub impl Engine for BitEngine as BitEngineRuns {
     ghost sized = { λ s. key-of-sized (s .key .words) (s .key .used) (s .key .least) (s .key .most) (s .key .even) (s .key .stored) };
 
     fn short_run(&mut self, state: [u32; 4]) -> [u32; 4] {
-        self.run(state, 640)
+        as_words(self.run(as_number(state), 640))
     }
 
     fn long_run(&mut self, state: [u32; 4]) -> [u32; 4] {
-        self.run(state, 768 + 64 * self.key.used() as u32)
+        as_words(self.run(as_number(state), 768 + 64 * self.key.used() as u32))
     }
 }

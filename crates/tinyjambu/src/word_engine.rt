@@ -8,6 +8,8 @@ ghost use Rattle.tinyjambu.specs.Keys.{key-of, key-of-sized};
 ghost use Rattle.tinyjambu.specs.Turns.{Brings, flipped, flip, flipped-stored};
 use crate::engine::Engine;
 use crate::key::Key;
+use crate::state::as_number;
+use crate::state::as_words;
 
 // An engine that moves the state by thirty-two bits at a time. It keeps the complement of the key's words, so that the nand of a round becomes an and.
 #[derive(Clone, Copy)]
@@ -42,11 +44,11 @@ impl WordEngine {
         if at + 1 < self.used { at + 1 } else { 0 }
     }
 
-    // The state after `steps` times 128 rounds.
-    fn run(&self, state: [u32; 4], steps: u32) -> [u32; 4]
-        ensures { λ r. ⌜ r ≡ words 4 (rounds (key-of (flipped (now (self .entry) .words)) (now (self .entry) .used)) (128 * steps) (joined state)) ⌝ }
+    // The state after `steps` times 128 rounds, as a number.
+    fn run(&self, state: u128, steps: u32) -> u128
+        ensures { λ r. ⌜ r ≡ rounds (key-of (flipped (now (self .entry) .words)) (now (self .entry) .used)) (128 * steps) state ⌝ }
     {
-        let [mut a, mut b, mut c, mut d] = state;
+        let [mut a, mut b, mut c, mut d] = as_words(state);
         let mut at: usize = 0;
         for n in 0..steps {
             a = mix(a, b, c, d, self.words[at]);
@@ -58,7 +60,7 @@ impl WordEngine {
             d = mix(d, a, b, c, self.words[at]);
             at = self.next(at);
         }
-        [a, b, c, d]
+        as_number([a, b, c, d])
     }
 }
 
@@ -87,10 +89,10 @@ pub impl Engine for WordEngine as WordEngineRuns {
     ghost sized = { λ s. key-of-sized (flipped (s .words)) (s .used) (s .least) (s .most) (s .even) (flipped-stored (s .words) (s .used) (s .stored)) };
 
     fn short_run(&mut self, state: [u32; 4]) -> [u32; 4] {
-        self.run(state, 5)
+        as_words(self.run(as_number(state), 5))
     }
 
     fn long_run(&mut self, state: [u32; 4]) -> [u32; 4] {
-        self.run(state, 6 + self.used as u32 / 2)
+        as_words(self.run(as_number(state), 6 + self.used as u32 / 2))
     }
 }

@@ -32,7 +32,11 @@ fn opens<E: Engine>(engine: &mut E, case: &Case, out: &mut [u8]) -> bool
 }
 
 // Whether a case agrees with an engine of its key, both ways.
-pub(crate) fn agrees<E: Engine>(heap: Global, engine: &mut E, case: &Case) -> Result<bool, AllocError>
+pub(crate) fn agrees<E: Engine>(
+    heap: Global,
+    engine: &mut E,
+    case: &Case,
+) -> Result<bool, AllocError>
     ensures sealed { λ r. ⌜ made r (λ b. b ≡ true → seal (key (now (engine .entry))) (vec-items (now (case .entry) .nonce)) (vec-items (now (case .entry) .ad)) (vec-items (now (case .entry) .text)) ≡ vec-items (now (case .entry) .sealed)) ⌝ }
     ensures opened { λ r. ⌜ made r (λ b. b ≡ true → opened (key (now (engine .entry))) (vec-items (now (case .entry) .nonce)) (vec-items (now (case .entry) .ad)) (vec-items (now (case .entry) .sealed)) ≡ Some (vec-items (now (case .entry) .text))) ⌝ }
 {

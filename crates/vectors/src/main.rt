@@ -3,6 +3,7 @@ mod case;
 mod key_size;
 mod tally;
 mod verdict;
+
 use crate::key_size::KeySize;
 use crate::tally::Tally;
 use crate::tally::TallyDisplay;

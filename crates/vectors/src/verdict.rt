@@ -36,12 +36,14 @@ impl Verdict {
 
 pub impl fmt::Display for Verdict as VerdictDisplay {
     fn fmt<W: fmt::Write>(&self, f: &mut fmt::Formatter<W>) -> fmt::Result {
-        f.write_str(match self {
-            Verdict::Agrees => "agrees with both engines",
-            Verdict::BitsDiffer => "does not agree with the bit engine",
-            Verdict::WordsDiffer => "does not agree with the word engine",
-            Verdict::Malformed => "is malformed",
-        })
+        f.write_str(
+            match self {
+                Verdict::Agrees => "agrees with both engines",
+                Verdict::BitsDiffer => "does not agree with the bit engine",
+                Verdict::WordsDiffer => "does not agree with the word engine",
+                Verdict::Malformed => "is malformed",
+            },
+        )
     }
 }
 

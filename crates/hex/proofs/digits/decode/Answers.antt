@@ -12,8 +12,9 @@ use Rattle.hex.proofs.digits.decode.Needs as need
 pub loop-i-again : need.loop-i-again
 loop-i-again c =
     let at : vec-len (c .loop-i .bytes) ≡ c .loop-i .i = c .loop-i .inv .0 in
-    let pushed : isOk (c .push .result) ≡ true = ap isOk (c .in-Continue-push .was tt) in
-    ( search needs
-    , below-more _ _
-      (λ k h. let lt : k < vec-len (c .loop-i .bytes) = omega arith in cc (c .loop-i .inv .1 k h, c .push .ensures .places .0 k 0 lt))
-      (let e = c .push .ensures .places .1 0 pushed in cc (c .pair .ensures, c .in-Some .is)))
+    let pushed : isOk (c .push .result) ≡ true = ap isOk (c .in-Continue-push .was tt) in (
+      search needs,
+      below-more _ _
+          (λ k h. let lt : k < vec-len (c .loop-i .bytes) = omega arith in cc (c .loop-i .inv .1 k h, c .push .ensures .places .0 k 0 lt))
+          (let e = c .push .ensures .places .1 0 pushed in cc (c .pair .ensures, c .in-Some .is)),
+    )

@@ -9,7 +9,7 @@ pub returns-then-len-out : need.returns-then-len-out
 returns-then-len-out g c =
     let text = opened (g .E·Engine .key (c .args .engine .now)) (c .deref .result .now) (c .deref-2 .result .now) (c .deref-3 .result .now) in
     let made = opens-whole _ text _ _ _ (sym (c .open .ensures .answer) ∙ c .in-Ok .is) (c .if-len-out .taken) (c .open .ensures .out) in
-    record
-      { meant = λ h. let e = matches-decides _ _ _ (c .eq .ensures) .0 h in cc (made, c .deref .ensures .value, c .deref-2 .ensures .value, c .deref-3 .ensures .value)
-      ; same = c .open .ensures .same
-      }
+    record {
+      meant = λ h. let e = matches-decides _ _ _ (c .eq .ensures) .0 h in cc (made, c .deref .ensures .value, c .deref-2 .ensures .value, c .deref-3 .ensures .value);
+      same = c .open .ensures .same;
+    }

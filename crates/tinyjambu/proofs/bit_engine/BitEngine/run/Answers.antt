@@ -14,5 +14,5 @@ pub loop-i-again : need.loop-i-again
 loop-i-again c =
     let k = c .args .self .now .key in
     let w = c .word .ensures ∙ ap (λ u. getD (k .words) (c .loop-i .i / 32 % u) 0) (c .used .ensures) in
-    bit-turn (k .words) (k .used) (c .loop-i .i) (c .as-number-s .result) (c .loop-i .s) (c .bit-round-s .result)
+    bit-turn (k .words) (k .used) (c .loop-i .i) (c .args .state) (c .loop-i .s) (c .bit-round-s .result)
     (k .stored) (omega arith) (c .loop-i .inv) (rw w at (c .bit-round-s .ensures))

@@ -1,13 +1,11 @@
-use mathlib.Core.Path.{_≡_, refl, sym, ap, _∙_}
-use mathlib.Core.List.{[], _∷_}
+use mathlib.Core.Path.{_≡_, sym, ap, subst, _∙_}
 use Prim.Native.Nat.{_+_, _*_}
 use native.Mathlib.Omega.{arith}
 use native.Mathlib.Nat.{zero-mod}
 use Rattle.tinyjambu.specs.Permutation.{rounds}
-use Rattle.tinyjambu.specs.Bytes.{joined, words}
-use Rattle.tinyjambu.specs.Keys.{key-of}
-use Rattle.tinyjambu.specs.Turns.{flipped, flipped-stored}
-use Rattle.tinyjambu.proofs.Joined.{words-joined, four}
+use Rattle.tinyjambu.specs.Bytes.{joined, All-words}
+use Rattle.tinyjambu.specs.Turns.{flipped-stored}
+use Rattle.tinyjambu.proofs.Joined.{joined-words, words-small, four}
 use Rattle.tinyjambu.proofs.Turns.{turn-flipped}
 use Rattle.tinyjambu.proofs.word_engine.WordEngine.run.Needs as need
 
@@ -17,8 +15,8 @@ loop-n-holds c = record {
   many = flipped-stored (c .args .self .now .words) (c .args .self .now .used) (c .args .self .now .stored);
   place = sym (zero-mod (c .args .self .now .used));
   below = omega arith;
-  small = (c .element-fits .fits, (c .element-fits2 .fits, (c .element-fits3 .fits, (c .element-fits4 .fits, tt))));
-  state = refl;
+  small = subst All-words (sym (four (c .as-words .result) (omega arith) ∙ c .as-words .ensures)) (words-small 4 (c .args .state));
+  state = sym (ap joined (four (c .as-words .result) (omega arith) ∙ c .as-words .ensures) ∙ joined-words 4 (c .args .state) (c .fits .state .fits));
 }
 
 pub loop-n-again : need.loop-n-again
@@ -33,6 +31,4 @@ loop-n-again c =
 pub returns : need.returns
 returns c =
     let n : 128 * c .args .steps ≡ c .loop-n .n * 4 * 32 = omega arith in
-    let e : rounds (key-of (flipped (c .args .self .now .words)) (c .args .self .now .used)) (128 * c .args .steps) (joined (c .args .state)) ≡ joined (c .loop-n .a ∷ c .loop-n .b ∷ c .loop-n .c ∷ c .loop-n .d ∷ [])
-    = rw (n, ← (four (c .args .state) (omega arith))) (c .loop-n .inv .state) in
-    sym (ap (words 4) e ∙ words-joined (c .loop-n .a ∷ c .loop-n .b ∷ c .loop-n .c ∷ c .loop-n .d ∷ []) (c .loop-n .inv .small))
+    c .as-number .ensures ∙ sym (rw n (c .loop-n .inv .state))
