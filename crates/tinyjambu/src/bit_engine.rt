@@ -55,6 +55,6 @@ pub impl Engine for BitEngine as BitEngineRuns {
     }
 
     fn long_run(&mut self, state: [u32; 4]) -> [u32; 4] {
-        as_words(self.run(as_number(state), 768 + 64 * self.key.used() as u32))
+        as_words(self.run(as_number(state), self.key.long_rounds()))
     }
 }

@@ -3,6 +3,7 @@ ghost use mathlib.Core.Bool.{false};
 ghost use Prim.Native.Nat.{_%_, _<_, _≤_};
 ghost use lib.ListN.{length, getD, replicate};
 ghost use Rattle.std.specs.Results.{isOk};
+ghost use Rattle.tinyjambu.specs.Mode.{long-rounds};
 ghost use Rattle.tinyjambu.specs.Keys.{key-of, is-key-size, fill-answer, fill-after};
 use crate::fault::Fault;
 use crate::little_endian::load;
@@ -54,6 +55,13 @@ impl Key {
         ensures { λ r. ⌜ r ≡ now (self .entry) .used ⌝ }
     {
         self.used
+    }
+
+    // The rounds of a long run under the key: 1,024, 1,152 or 1,280.
+    pub(crate) fn long_rounds(&self) -> u32
+        ensures { λ r. ⌜ r ≡ long-rounds (key-of (now (self .entry) .words) (now (self .entry) .used)) ⌝ }
+    {
+        768 + 64 * self.used as u32
     }
 
     // A word of the key.

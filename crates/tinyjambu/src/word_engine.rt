@@ -4,6 +4,7 @@ ghost use Prim.Native.Nat.{_+_, _*_, _/_, _%_, _^_, _<_, _≤_};
 ghost use lib.ListN.{length};
 ghost use Rattle.tinyjambu.specs.Permutation.{rounds};
 ghost use Rattle.tinyjambu.specs.Bytes.{joined, words};
+ghost use Rattle.tinyjambu.specs.Mode.{long-rounds};
 ghost use Rattle.tinyjambu.specs.Keys.{key-of, key-of-sized};
 ghost use Rattle.tinyjambu.specs.Turns.{Brings, flipped, flip, flipped-stored};
 use crate::engine::Engine;
@@ -42,6 +43,13 @@ impl WordEngine {
         ensures below { λ r. ⌜ r < now (self .entry) .used ⌝ }
     {
         if at + 1 < self.used { at + 1 } else { 0 }
+    }
+
+    // The rounds of a long run under the key, in steps of 128.
+    fn long_steps(&self) -> u32
+        ensures { λ r. ⌜ 128 * r ≡ long-rounds (key-of (flipped (now (self .entry) .words)) (now (self .entry) .used)) ⌝ }
+    {
+        6 + self.used as u32 / 2
     }
 
     // The state after `steps` times 128 rounds, as a number.
@@ -93,6 +101,6 @@ pub impl Engine for WordEngine as WordEngineRuns {
     }
 
     fn long_run(&mut self, state: [u32; 4]) -> [u32; 4] {
-        as_words(self.run(as_number(state), 6 + self.used as u32 / 2))
+        as_words(self.run(as_number(state), self.long_steps()))
     }
 }
