@@ -4,6 +4,7 @@ ghost use Rattle.tinyjambu.specs.Refusals.{outside, fault-text};
 use crate::refusal::Refusal;
 use crate::refusal::RefusalDebug;
 use crate::refusal::RefusalPartialEq;
+use std::error::Error;
 use std::fmt;
 
 // A refusal, and where it came from: the floor and the entry number of the roll that was called, 0 and 0 outside rolls.
@@ -41,3 +42,5 @@ pub impl fmt::Display for Fault as FaultDisplay {
         )
     }
 }
+
+pub impl Error for Fault as FaultError {}

@@ -1,0 +1,24 @@
+mod answer;
+#[cfg(test)]
+mod changes;
+#[cfg(test)]
+mod common;
+#[cfg(test)]
+mod cuts;
+#[cfg(test)]
+mod engines;
+#[cfg(test)]
+mod host_calls;
+#[cfg(test)]
+mod keys;
+#[cfg(test)]
+mod limits;
+#[cfg(test)]
+mod order;
+mod session_use;
+#[cfg(test)]
+mod shown;
+
+pub use answer::number_of;
+pub use session_use::Halves;
+pub use session_use::in_pieces;
