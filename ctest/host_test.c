@@ -9,6 +9,9 @@
 static const uint64_t seed = 0x5655525348414445u;
 
 enum { SHORT_CASES = 16000, LONG_CASES = 400 };
+
+/* Chosen and random cases together: a test that tries fewer has lost some. */
+enum { EXPECTED_CASES = 29755 };
 enum { FEW = 20, SHORT = 200, LIMIT = VURSHADE_MAX_LENGTH };
 
 #define COUNT(list) (sizeof(list) / sizeof *(list))
@@ -299,6 +302,10 @@ int main(void)
         random_case(0);
     for (int i = 0; i < LONG_CASES; i++)
         random_case(1);
-    printf("host_test: %lu cases agree\n", trial_count());
+    if (trial_count() != EXPECTED_CASES) {
+        printf("host_test: %lu cases were tried, not %d\n", trial_count(), EXPECTED_CASES);
+        return 1;
+    }
+    printf("host_test: %d cases agree\n", EXPECTED_CASES);
     return 0;
 }

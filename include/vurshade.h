@@ -15,9 +15,15 @@
  * the same key. The library cannot notice it, and two such messages give away
  * text and make forgery easier.
  *
- * Each call answers a length, or a refusal, which is below 0. The checks run in
- * the order in which the refusals are listed; the first that applies is the
- * answer. No call changes the bytes it reads. */
+ * Each call answers a length, or a refusal, which is any number below 0. The
+ * checks run in the order in which the refusals are listed; the first that
+ * applies is the answer. No call changes the bytes it reads.
+ *
+ * The calls keep nothing from one to the next, so they may run at the same time
+ * on buffers of their own. While an opening runs, `out` may hold text that is
+ * not authenticated yet: nothing may read it before the call has answered.
+ *
+ * The library is built for 64-bit Linux on x86-64. */
 #ifndef VURSHADE_H
 #define VURSHADE_H
 

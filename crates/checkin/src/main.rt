@@ -31,7 +31,7 @@ const SCENE_FILE: &str = "scene.txt";
 
 const SEALED_FILE: &str = "scene.sealed";
 
-// What the scene is sealed under. The studio's key must meet no nonce twice.
+// What the scene is sealed under. It is fixed, since this program demonstrates one revision; a key must meet no nonce twice.
 const LABEL: Label = Label {
     nonce: Nonce {
         name: 7,

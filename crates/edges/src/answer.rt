@@ -3,7 +3,7 @@ ghost use Rattle.edges.specs.Numbers.{answer-number};
 use tinyjambu::Fault;
 
 // The number of the refusal that an answer is, and 0 where the call was taken.
-pub fn number_of<T: Drop>(answer: Result<T, Fault>) -> u8
+pub(crate) fn number_of<T: Drop>(answer: Result<T, Fault>) -> u8
     ensures { λ r. ⌜ r ≡ answer-number answer ⌝ }
 {
     match answer {

@@ -18,7 +18,3 @@ mod order;
 mod session_use;
 #[cfg(test)]
 mod shown;
-
-pub use answer::number_of;
-pub use session_use::Halves;
-pub use session_use::in_pieces;

@@ -15,13 +15,13 @@ use tinyjambu::Session;
 
 // Bytes that come in two pieces.
 #[derive(Clone, Copy)]
-pub struct Halves<'a> {
+pub(crate) struct Halves<'a> {
     pub first: &'a [u8],
     pub second: &'a [u8],
 }
 
-// A session in full: seals the message of which data and text come in two pieces each, writes the sealed form at the start of `out`, and answers its length.
-pub fn in_pieces<E: Engine + Drop>(
+// A session in full: seals the message of which data and text come in two pieces each, writes the sealed form at the start of `out`, and answers its length. A refusal may leave what earlier pieces wrote.
+pub(crate) fn in_pieces<E: Engine + Drop>(
     engine: E,
     nonce: [u32; 3],
     ad: Halves,

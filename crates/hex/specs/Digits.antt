@@ -38,5 +38,5 @@ pub record Spells (text bytes : List ℕ) : Type 0 where
 -- what a fault says of the text
 abbrev pub Refuses : HexFault → List ℕ → Type 0
 Refuses OddLength text = length text % 2 ≡ 1
-Refuses NotADigit text = (k : ℕ) × (2 * k + 1 < length text) × (pair-value (getD text (2 * k) 0) (getD text (2 * k + 1) 0) ≡ None)
-Refuses NoMemory text = Unit {0}
+Refuses NotADigit text = (length text % 2 ≡ 0) × ((k : ℕ) × (2 * k + 1 < length text) × (pair-value (getD text (2 * k) 0) (getD text (2 * k + 1) 0) ≡ None))
+Refuses NoMemory text = (length text % 2 ≡ 0) × (0 < length text)

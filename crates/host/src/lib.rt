@@ -1,4 +1,4 @@
-// The calls for a C host, on byte slices: each passes as a pointer and a length. A C header documents them, include/vurshade.h.
+// The calls for a C host, on byte slices: each passes as a pointer and a length. include/vurshade.h documents them for C.
 ghost use mathlib.Core.Path.{_≡_};
 ghost use Prim.Native.Nat.{_^_, _<_};
 ghost use Rattle.std.specs.Vec.{made};

@@ -14,7 +14,6 @@ use Rattle.std.proofs.shelf.Equals.{compares-decides}
 use Rattle.std.proofs.shelf.Tests.{and-parts, le-leb}
 use Rattle.std.proofs.shelf.Lists.{length-append, take-append-drop, take-at, drop-at}
 use Rattle.tinyjambu.specs.Mode.{text-run, stream, mark, inject, plain-block, xored, blocks, ciphertext, text-state, plaintext, plain-state, tag, same, seal, opened, begun, absorbed}
-use Rattle.tinyjambu.specs.Laws.{Opened-exactly}
 use Rattle.tinyjambu.proofs.Walk.{flat, walked, ended, xored-undone, length-xored, text-back, state-back}
 
 module _ (key : List ℕ) where
@@ -107,6 +106,6 @@ module _ (key : List ℕ) (s : ℕ) where
       rw (p .1, p .2, opened-text, opened-state, le-leb 8 (length c) (p .0), same-decides made made .1 refl)
 
 -- opening by the definition is exact
-pub opens-exactly : Opened-exactly
+pub opened-exactly : (key n ad c t : List ℕ) → (opened key n ad c ≡ Some t → seal key n ad t ≡ c) × (seal key n ad t ≡ c → opened key n ad c ≡ Some t)
 unfolding seal opened
-opens-exactly key n ad c t = (seals key (absorbed key (begun key n) (blocks ad)) c t, opens key (absorbed key (begun key n) (blocks ad)) c t)
+opened-exactly key n ad c t = (seals key (absorbed key (begun key n) (blocks ad)) c t, opens key (absorbed key (begun key n) (blocks ad)) c t)

@@ -1,5 +1,5 @@
 -- The bits of a key that is held in words.
-use Prim.Native.Nat.{ℕ, zero, suc, _+_, _*_, _/_, _%_, _^_, _<_, _≤_}
+use Prim.Native.Nat.{ℕ, zero, suc, _+_, _-_, _*_, _/_, _%_, _^_, _<_, _≤_}
 use mathlib.Core.Path.{_≡_, sym, ap, ap₂, _∙_}
 use mathlib.Core.List.{List, [], _∷_, _++_, append-nil}
 use native.Mathlib.Nat.{div-add-mod, mod-lt, zero-add}
@@ -9,10 +9,10 @@ use mathlib.Core.Logic.{⊎-elim}
 use lib.Arith.{mod-mul}
 use lib.Dec.{eqb}
 use Rattle.std.proofs.shelf.Tests.{eqb-true, or-cases}
-use lib.ListN.{length, getD, set, take, drop, length-drop}
+use lib.ListN.{length, getD, set, take, drop, replicate, length-drop}
 use lib.Seq.{getD-take, take-add}
 use Rattle.std.proofs.shelf.Elements.{all-take, all-drop}
-use Rattle.std.proofs.shelf.Lists.{getD-append-left, take-more-set, length-take-le}
+use Rattle.std.proofs.shelf.Lists.{getD-append-left, take-more-set, length-take-le, drop-set-lt, drop-drop, drop-replicate}
 use Rattle.tinyjambu.specs.Permutation.{bit, key-bit}
 use Rattle.tinyjambu.specs.Bytes.{number, bytes, All-bytes, word-bytes, length-word-bytes}
 use Rattle.tinyjambu.specs.Mode.{long-rounds}
@@ -56,6 +56,11 @@ key-size-true n e =
     = λ m a b c t. let h = eqb-true n m t in (omega arith, omega arith, omega arith) in
     ⊎-elim (λ r. ⊎-elim (is 16 (omega arith) (omega arith) (omega arith)) (is 24 (omega arith) (omega arith) (omega arith)) (or-cases (eqb n 16) (eqb n 24) r))
     (is 32 (omega arith) (omega arith) (omega arith)) (or-cases (eqb n 16 || eqb n 24) (eqb n 32) e)
+
+-- the words that are not written yet are 0
+pub rest-more : (ws : List ℕ) (i w : ℕ) → drop i ws ≡ replicate (8 - i) 0 → drop (i + 1) (set ws i w) ≡ replicate (8 - (i + 1)) 0
+rest-more ws i w e =
+    drop-set-lt (i + 1) ws i w (omega arith) ∙ sym (drop-drop 1 i ws) ∙ ap (drop 1) e ∙ drop-replicate 1 (8 - i) 0 ∙ ap (λ n. replicate n 0) (omega arith)
 
 -- one word more of a key that is filled from bytes
 pub filled-more : (ws bs : List ℕ) (i : ℕ) → All-bytes bs → i < length ws → 4 * i + 4 ≤ length bs → key-of ws i ≡ take (4 * i) bs

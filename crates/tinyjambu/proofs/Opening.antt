@@ -16,13 +16,13 @@ use Rattle.std.proofs.shelf.Lists.{take-at, drop-at, take-all, drop-drop, lengt
 use Rattle.tinyjambu.specs.declared.fault.Fault.{Fault}
 use Rattle.tinyjambu.specs.declared.refusal.Refusal.{Refusal}
 use Rattle.tinyjambu.specs.declared.refusal.Refusal.the-variants.{NonceLength, DataTooLong, TextTooLong}
-use Rattle.tinyjambu.specs.Answers.{longest, written, open-check, opened-answer, opened-out, text-answer-of, text-out-of}
+use Rattle.tinyjambu.specs.Answers.{longest, written, open-check, opened-answer, opened-out, opened-text-answer, opened-text-out}
 use Rattle.tinyjambu.specs.Bytes.{number, bytes, word-bytes, All-bytes}
 use Rattle.tinyjambu.specs.History.{sealed-piece, sealed-tag}
 use Rattle.tinyjambu.specs.Laws.{Exact}
-use Rattle.tinyjambu.specs.Message.{nonce-words}
+use Rattle.tinyjambu.specs.Nonce.{nonce-words}
 use Rattle.tinyjambu.specs.Mode.{begun, blocks, absorbed, ciphertext, text-state, plaintext, plain-state, tag, same, seal, opened}
-use Rattle.tinyjambu.proofs.Exact.{opens-exactly, opened-text, opened-state, some-if}
+use Rattle.tinyjambu.proofs.Exact.{opened-exactly, opened-text, opened-state, some-if}
 use Rattle.tinyjambu.proofs.Joined.{bytes-number}
 use Rattle.tinyjambu.proofs.Sealing.{seal-one, seal-length, ciphertext-length}
 
@@ -62,21 +62,21 @@ module _ (key n ad : List ℕ) where
       ∙ ap (λ x. cond (same (sealed-tag key n ad t) (drop (length t) c)) (Some x) None) text
 
   -- an opening by the definition is exact
-  pub exact-by : (c : List ℕ) (o : Option (List ℕ)) (out : List ℕ) → opened key n ad c ≡ o → Exact key n ad c (text-answer-of o) (text-out-of o out)
+  pub exact-by : (c : List ℕ) (o : Option (List ℕ)) (out : List ℕ) → opened key n ad c ≡ o → Exact key n ad c (opened-text-answer o) (opened-text-out o out)
   exact-by c None out e = record {
     gives = λ m f. let z : _≡_ {A = ℕ} 0 1 = cc in absurd (omega arith);
-    finds = λ t f. let g = opens-exactly key n ad c t .1 f in let z : _≡_ {A = ℕ} 0 1 = cc in absurd (omega arith);
+    finds = λ t f. let g = opened-exactly key n ad c t .1 f in let z : _≡_ {A = ℕ} 0 1 = cc in absurd (omega arith);
     one = λ t u f g. seal-one key n ad t u (f ∙ sym g);
     none = λ f. refl;
   }
   exact-by c (Some t) out e = record {
-    gives = λ m f. let k : length t ≡ m = cc in ap (seal key n ad) (take-at t (drop (length t) out) m k) ∙ opens-exactly key n ad c t .0 e;
+    gives = λ m f. let k : length t ≡ m = cc in ap (seal key n ad) (take-at t (drop (length t) out) m k) ∙ opened-exactly key n ad c t .0 e;
     finds = λ u f.
-        let g = opens-exactly key n ad c u .1 f in
+        let g = opened-exactly key n ad c u .1 f in
         let same : t ≡ u = cc in
         (ap (λ x. Ok (length x)) same, take-at t (drop (length t) out) (length u) (ap length same) ∙ same);
     one = λ t u f g. seal-one key n ad t u (f ∙ sym g);
-    none = λ f. absurd (f t (opens-exactly key n ad c t .0 e));
+    none = λ f. absurd (f t (opened-exactly key n ad c t .0 e));
   }
 
 -- a nonce that was taken for three words has their bytes
@@ -104,7 +104,7 @@ pub record Opened (key n ad c out : List ℕ) (check : Option Refusal) (r : Resu
   pub exact : Exact key n ad c r after
 
 pub opened-by : (key n ad c out : List ℕ) (check : Option Refusal) (o : Option (List ℕ)) (answer : Result ℕ Fault) (after : List ℕ)
-    → check ≡ None → opened key n ad c ≡ o → answer ≡ text-answer-of o → after ≡ text-out-of o out → Opened key n ad c out check answer after
+    → check ≡ None → opened key n ad c ≡ o → answer ≡ opened-text-answer o → after ≡ opened-text-out o out → Opened key n ad c out check answer after
 opened-by key n ad c out check o answer after e f g h = record {
   answer = g ∙ sym (ap₂ opened-answer e f);
   bytes = h ∙ sym (ap₂ (λ x y. opened-out x y out) e f);
@@ -113,7 +113,7 @@ opened-by key n ad c out check o answer after e f g h = record {
 
 -- a text that was opened is 8 bytes shorter
 pub opened-length : (key n ad c t : List ℕ) → opened key n ad c ≡ Some t → length t + 8 ≡ length c
-opened-length key n ad c t e = sym (seal-length key n ad t) ∙ ap length (opens-exactly key n ad c t .0 e)
+opened-length key n ad c t e = sym (seal-length key n ad t) ∙ ap length (opened-exactly key n ad c t .0 e)
 
 -- where no check refuses, each one passed
 pub none-passed : (b : Bool) (r : Refusal) (rest : Option Refusal) → cond b (Some r) rest ≡ None → (b ≡ false) × (rest ≡ None)

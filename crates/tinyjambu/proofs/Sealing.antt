@@ -7,7 +7,7 @@ use lib.ListN.{length, length-append, length-drop}
 use Rattle.std.proofs.shelf.Lists.{length-take-le}
 use Rattle.tinyjambu.specs.Mode.{seal, blocks, ciphertext, mark, inject, text-run}
 use Rattle.tinyjambu.specs.History.{sealed-piece, sealed-tag}
-use Rattle.tinyjambu.proofs.Exact.{opens-exactly}
+use Rattle.tinyjambu.proofs.Exact.{opened-exactly}
 
 -- the sealed text is as long as the text
 pub ciphertext-length : (key : List ℕ) (s : ℕ) (t : List ℕ) → length (ciphertext key s (blocks t)) ≡ length t
@@ -25,8 +25,8 @@ seal-length key n ad t = rw (length-append, ciphertext-length)
 -- no two texts have one sealed form
 pub seal-one : (key n ad t u : List ℕ) → seal key n ad t ≡ seal key n ad u → t ≡ u
 seal-one key n ad t u e =
-    let p = opens-exactly key n ad (seal key n ad u) t .1 e in
-    let q = opens-exactly key n ad (seal key n ad u) u .1 refl in
+    let p = opened-exactly key n ad (seal key n ad u) t .1 e in
+    let q = opened-exactly key n ad (seal key n ad u) u .1 refl in
     cc
 
 -- its parts: the sealed text, and the tag

@@ -80,25 +80,28 @@ open-check n ad c room =
     (Some NonceLength)
 
 -- an opening that no check refuses answers the length of the text, and writes it at the start of the buffer; a refused one leaves only zeros
-abbrev pub text-answer-of : Option (List ℕ) → Result ℕ Fault
-text-answer-of None = Err (outside Broken)
-text-answer-of (Some t) = Ok (length t)
+abbrev pub opened-text-answer : Option (List ℕ) → Result ℕ Fault
+opened-text-answer None = Err (outside Broken)
+opened-text-answer (Some t) = Ok (length t)
 
-abbrev pub text-out-of : Option (List ℕ) → List ℕ → List ℕ
-text-out-of None out = replicate (length out) 0
-text-out-of (Some t) out = written t out
+abbrev pub opened-text-out : Option (List ℕ) → List ℕ → List ℕ
+opened-text-out None out = replicate (length out) 0
+opened-text-out (Some t) out = written t out
 
 abbrev pub opened-answer : Option Refusal → Option (List ℕ) → Result ℕ Fault
 opened-answer (Some r) text = Err (outside r)
-opened-answer None text = text-answer-of text
+opened-answer None text = opened-text-answer text
 
 abbrev pub opened-out : Option Refusal → Option (List ℕ) → List ℕ → List ℕ
 opened-out (Some r) text out = replicate (length out) 0
-opened-out None text out = text-out-of text out
+opened-out None text out = opened-text-out text out
 
 -- whole opening
+abbrev pub open-refusal : List ℕ → List ℕ → List ℕ → List ℕ → Option Refusal
+open-refusal n ad c out = open-check (length n) (length ad) (length c) (length out)
+
 abbrev pub open-answer : List ℕ → List ℕ → List ℕ → List ℕ → List ℕ → Result ℕ Fault
-open-answer key n ad c out = opened-answer (open-check (length n) (length ad) (length c) (length out)) (opened key n ad c)
+open-answer key n ad c out = opened-answer (open-refusal n ad c out) (opened key n ad c)
 
 abbrev pub open-out : List ℕ → List ℕ → List ℕ → List ℕ → List ℕ → List ℕ
-open-out key n ad c out = opened-out (open-check (length n) (length ad) (length c) (length out)) (opened key n ad c) out
+open-out key n ad c out = opened-out (open-refusal n ad c out) (opened key n ad c) out

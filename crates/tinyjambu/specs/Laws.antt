@@ -3,13 +3,13 @@ use mathlib.Core.Path.{_≡_}
 use mathlib.Core.List.{List}
 use Prim.Native.Nat.{ℕ}
 use lib.ListN.{length, take}
-use Rattle.std.specs.declared.option.Option.the-variants.{Some, None}
+use Rattle.std.specs.declared.option.Option.the-variants.{None}
 use Rattle.std.specs.declared.result.Result.{Result}
 use Rattle.std.specs.declared.result.Result.the-variants.{Ok, Err}
 use Rattle.tinyjambu.specs.declared.fault.Fault.{Fault}
 use Rattle.tinyjambu.specs.declared.refusal.Refusal.the-variants.{Broken}
-use Rattle.tinyjambu.specs.Answers.{open-check}
-use Rattle.tinyjambu.specs.Mode.{seal, opened}
+use Rattle.tinyjambu.specs.Answers.{open-refusal}
+use Rattle.tinyjambu.specs.Mode.{seal}
 use Rattle.tinyjambu.specs.Refusals.{outside}
 
 -- Opening is exact, by an answer and the out buffer afterwards: what is given seals to the bytes c, each text that seals to them is given,
@@ -22,8 +22,4 @@ pub record Exact (key n ad c : List ℕ) (answer : Result ℕ Fault) (out : List
 
 -- so it is for each call that passes the checks of lengths
 abbrev pub Opens-exactly : List ℕ → List ℕ → List ℕ → List ℕ → List ℕ → Result ℕ Fault → List ℕ → Type 0
-Opens-exactly key n ad c before answer out = open-check (length n) (length ad) (length c) (length before) ≡ None → Exact key n ad c answer out
-
--- the definition of opening is exact
-abbrev pub Opened-exactly : Type 0
-Opened-exactly = (key n ad c t : List ℕ) → (opened key n ad c ≡ Some t → seal key n ad t ≡ c) × (seal key n ad t ≡ c → opened key n ad c ≡ Some t)
+Opens-exactly key n ad c before answer out = open-refusal n ad c before ≡ None → Exact key n ad c answer out

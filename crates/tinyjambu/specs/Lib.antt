@@ -10,3 +10,4 @@ pub mod History
 pub mod Answers
 pub mod Session
 pub mod Message
+pub mod Nonce

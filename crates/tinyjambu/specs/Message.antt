@@ -1,19 +1,9 @@
 -- A message that comes in pieces.
 use Prim.Native.Nat.{ℕ}
 use mathlib.Core.List.{List, [], _∷_, _++_}
-use mathlib.Core.Bool.{cond}
-use lib.Dec.{eqb}
-use lib.ListN.{length, take, drop}
 use denote.Ref.{RefT, now}
-use Rattle.std.specs.declared.option.Option.{Option}
-use Rattle.std.specs.declared.option.Option.the-variants.{Some, None}
-use Rattle.tinyjambu.specs.Bytes.{number}
 
 -- the pieces joined
 abbrev pub message : List (RefT (List ℕ)) → List ℕ
 message [] = []
 message (p ∷ ps) = now p ++ message ps
-
--- a nonce of twelve bytes as three words
-abbrev pub nonce-words : List ℕ → Option (List ℕ)
-nonce-words n = cond (eqb (length n) 12) (Some (number (take 4 n) ∷ number (take 4 (drop 4 n)) ∷ number (take 4 (drop 8 n)) ∷ [])) None

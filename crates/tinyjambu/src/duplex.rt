@@ -13,9 +13,9 @@ use crate::little_endian::load;
 use crate::little_endian::store;
 use crate::phase::Phase;
 use crate::state::State;
-use crate::state::long_run;
+use crate::state::framed_long_run;
+use crate::state::framed_short_run;
 use crate::state::put;
-use crate::state::short_run;
 use crate::state::stream_word;
 
 // The cipher under one nonce: the state, and how many bytes are in the open block.
@@ -31,7 +31,7 @@ fn nonce_step<E: Engine>(engine: &mut E, state: State, word: u32) -> State
     ensures state { λ r. ⌜ joined r ≡ nonce-word (key (now (engine .entry))) word (joined state) ⌝ }
     ensures same { λ _. ⌜ key (now (engine .exit)) ≡ key (now (engine .entry)) ⌝ }
 {
-    put(short_run(engine, state, 1), word, 96)
+    put(framed_short_run(engine, state, 1), word, 96)
 }
 
 impl Duplex {
@@ -56,8 +56,8 @@ impl Duplex {
     {
         if self.filled == 0 {
             self.state = match phase {
-                Phase::Data => short_run(engine, self.state, 3),
-                Phase::Text => long_run(engine, self.state, 5),
+                Phase::Data => framed_short_run(engine, self.state, 3),
+                Phase::Text => framed_long_run(engine, self.state, 5),
             };
         }
     }
@@ -106,7 +106,7 @@ impl Duplex {
         ensures filled { λ _. ⌜ now (self .exit) .filled ≡ 0 ⌝ }
         ensures same { λ _. ⌜ key (now (engine .exit)) ≡ key (now (engine .entry)) ⌝ }
     {
-        self.state = put(short_run(engine, self.state, 3), word, 96);
+        self.state = put(framed_short_run(engine, self.state, 3), word, 96);
     }
 
     // Takes a piece of associated data.
@@ -154,7 +154,7 @@ impl Duplex {
         ensures filled { λ _. ⌜ now (self .exit) .filled ≡ 0 ⌝ }
         ensures same { λ _. ⌜ key (now (engine .exit)) ≡ key (now (engine .entry)) ⌝ }
     {
-        let state = long_run(engine, self.state, 5);
+        let state = framed_long_run(engine, self.state, 5);
         let other = word ^ stream_word(state);
         self.state = put(state, direction.text(word, other), 96);
         other
@@ -188,12 +188,12 @@ impl Duplex {
     }
 
     // The two words of the tag, once the text is closed.
-    fn tag_words<E: Engine>(&self, engine: &mut E) -> [u8; 8]
+    fn tag_bytes<E: Engine>(&self, engine: &mut E) -> [u8; 8]
         ensures result { λ r. ⌜ r ≡ tag (key (now (engine .entry))) (joined (now (self .entry) .state)) ⌝ }
         ensures same { λ _. ⌜ key (now (engine .exit)) ≡ key (now (engine .entry)) ⌝ }
     {
-        let middle = long_run(engine, self.state, 7);
-        let end = short_run(engine, middle, 7);
+        let middle = framed_long_run(engine, self.state, 7);
+        let end = framed_short_run(engine, middle, 7);
         let [a, b, c, d] = stream_word(middle).to_le_bytes();
         let [e, f, g, h] = stream_word(end).to_le_bytes();
         [a, b, c, d, e, f, g, h]
@@ -205,6 +205,6 @@ impl Duplex {
         ensures same { λ _. ⌜ key (now (engine .exit)) ≡ key (now (engine .entry)) ⌝ }
     {
         self.close();
-        self.tag_words(engine)
+        self.tag_bytes(engine)
     }
 }

@@ -7,7 +7,7 @@ use crate::refusal::RefusalPartialEq;
 use std::error::Error;
 use std::fmt;
 
-// A refusal, and where it came from: the floor and the entry number of the roll that was called, 0 and 0 outside rolls.
+// A refusal, and where in a roll it came from: the floor and the entry number, 0 and 0 outside rolls.
 #[derive(Clone, Copy, PartialEq, Eq, Debug)]
 pub struct Fault {
     pub refusal: Refusal,

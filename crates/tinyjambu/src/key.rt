@@ -1,7 +1,7 @@
 ghost use mathlib.Core.Path.{_≡_};
 ghost use mathlib.Core.Bool.{false};
-ghost use Prim.Native.Nat.{_%_, _<_, _≤_};
-ghost use lib.ListN.{length, getD, replicate};
+ghost use Prim.Native.Nat.{_-_, _%_, _<_, _≤_};
+ghost use lib.ListN.{length, drop, getD, replicate};
 ghost use Rattle.std.specs.Results.{isOk};
 ghost use Rattle.tinyjambu.specs.Mode.{long-rounds};
 ghost use Rattle.tinyjambu.specs.Keys.{key-of, is-key-size, fill-answer, fill-after};
@@ -9,7 +9,7 @@ use crate::fault::Fault;
 use crate::little_endian::load;
 use crate::refusal::Refusal;
 
-// A key of 16, 24 or 32 bytes, held as 4, 6 or 8 words of 32 bits; the words past those in use mean nothing.
+// A key of 16, 24 or 32 bytes, held as 4, 6 or 8 words of 32 bits; the words past those in use are 0.
 #[derive(Clone, Copy)]
 pub struct Key {
     words: [u32; 8],
@@ -18,6 +18,7 @@ pub struct Key {
     ghost most: { used ≤ 8 },
     ghost even: { used % 2 ≡ 0 },
     ghost stored: { used ≤ length words },
+    ghost rest: { drop used words ≡ replicate (8 - used) 0 },
 }
 
 impl Key {

@@ -37,7 +37,7 @@ fn absorb_pieces<E: Engine>(duplex: &mut Duplex, engine: &mut E, pieces: &[&[u8]
 }
 
 // Seals pieces of the text, one after another, into `out`, which is as long as they are together.
-fn crypt_pieces<E: Engine>(duplex: &mut Duplex, engine: &mut E, pieces: &[&[u8]], out: &mut [u8])
+fn seal_texts<E: Engine>(duplex: &mut Duplex, engine: &mut E, pieces: &[&[u8]], out: &mut [u8])
     requires { ⌜ length (now out) ≡ length (message (now pieces)) ⌝ }
     ensures took { λ _. ⌜ ((nonce ad : List ℕ) → Took-text (key (now (engine .entry))) nonce ad [] (joined (now (duplex .entry) .state)) (now (duplex .entry) .filled) → Took-text (key (now (engine .entry))) nonce ad (message (now (pieces .entry))) (joined (now (duplex .exit) .state)) (now (duplex .exit) .filled)) ⌝ }
     ensures out { λ _. ⌜ ((nonce ad : List ℕ) → Took-text (key (now (engine .entry))) nonce ad [] (joined (now (duplex .entry) .state)) (now (duplex .entry) .filled) → now (out .exit) ≡ sealed-piece (key (now (engine .entry))) nonce ad [] (message (now (pieces .entry)))) ⌝ }
@@ -77,7 +77,7 @@ pub fn seal_pieces<E: Engine>(
     let mut duplex = Duplex::begin(engine, nonce);
     absorb_pieces(&mut duplex, engine, ad);
     duplex.end_data();
-    crypt_pieces(&mut duplex, engine, text, &mut out[0..len]);
+    seal_texts(&mut duplex, engine, text, &mut out[0..len]);
     let tag = duplex.tag(engine);
     out[len..len + 8].copy_from_slice(&tag);
     Ok(len + 8)

@@ -47,7 +47,7 @@ pub(crate) fn stream_word(state: State) -> u32
 }
 
 // Puts the frame bits into s36 to s38, and does a short run.
-pub(crate) fn short_run<E: Engine>(engine: &mut E, state: State, bits: u32) -> State
+pub(crate) fn framed_short_run<E: Engine>(engine: &mut E, state: State, bits: u32) -> State
     requires { ⌜ bits < 8 ⌝ }
     ensures state { λ r. ⌜ joined r ≡ short (key (now (engine .entry))) (frame bits (joined state)) ⌝ }
     ensures same { λ _. ⌜ key (now (engine .exit)) ≡ key (now (engine .entry)) ⌝ }
@@ -56,7 +56,7 @@ pub(crate) fn short_run<E: Engine>(engine: &mut E, state: State, bits: u32) -> S
 }
 
 // Puts the frame bits into s36 to s38, and does a long run.
-pub(crate) fn long_run<E: Engine>(engine: &mut E, state: State, bits: u32) -> State
+pub(crate) fn framed_long_run<E: Engine>(engine: &mut E, state: State, bits: u32) -> State
     requires { ⌜ bits < 8 ⌝ }
     ensures state { λ r. ⌜ joined r ≡ long (key (now (engine .entry))) (frame bits (joined state)) ⌝ }
     ensures same { λ _. ⌜ key (now (engine .exit)) ≡ key (now (engine .entry)) ⌝ }

@@ -2,11 +2,12 @@ ghost use mathlib.Core.Path.{_≡_};
 ghost use mathlib.Core.Bool.{true, false, cond};
 ghost use Prim.Native.Nat.{_+_};
 ghost use lib.ListN.{length};
+ghost use Rattle.std.specs.Options.{isSome};
 ghost use Rattle.std.specs.Results.{isOk};
 ghost use Rattle.std.specs.declared.option.Option.the-variants.{Some, None};
-ghost use Rattle.tinyjambu.specs.Answers.{seal-answer, seal-out, open-answer, open-out};
+ghost use Rattle.tinyjambu.specs.Answers.{seal-answer, seal-out, open-refusal, open-answer, open-out};
 ghost use Rattle.tinyjambu.specs.Bytes.{word-bytes};
-ghost use Rattle.tinyjambu.specs.Message.{nonce-words};
+ghost use Rattle.tinyjambu.specs.Nonce.{nonce-words};
 ghost use Rattle.tinyjambu.specs.Mode.{seal, opened, same};
 ghost use Rattle.tinyjambu.specs.Laws.{Opens-exactly};
 use crate::direction::Direction;
@@ -91,6 +92,7 @@ pub fn open<E: Engine>(
     ensures answer { λ r. ⌜ r ≡ open-answer (key (now (engine .entry))) (now (nonce .entry)) (now (ad .entry)) (now (sealed .entry)) (now (out .entry)) ⌝ }
     ensures out { λ _. ⌜ now (out .exit) ≡ open-out (key (now (engine .entry))) (now (nonce .entry)) (now (ad .entry)) (now (sealed .entry)) (now (out .entry)) ⌝ }
     ensures exact { λ r. ⌜ Opens-exactly (key (now (engine .entry))) (now (nonce .entry)) (now (ad .entry)) (now (sealed .entry)) (now (out .entry)) r (now (out .exit)) ⌝ }
+    ensures refused { λ _. ⌜ (isSome (open-refusal (now (nonce .entry)) (now (ad .entry)) (now (sealed .entry)) (now (out .entry))) ≡ true → now (engine .exit) ≡ now (engine .entry)) ⌝ }
     ensures same { λ _. ⌜ key (now (engine .exit)) ≡ key (now (engine .entry)) ⌝ }
 {
     let mut guard = Wipe { out, kept: false };

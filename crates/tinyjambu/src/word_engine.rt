@@ -36,7 +36,7 @@ impl WordEngine {
         WordEngine { words, used }
     }
 
-    // The place after `at`, round and round.
+    // The place after `at`: after the last comes the first.
     fn next(&self, at: usize) -> usize
         requires { ⌜ at < now self .used ⌝ }
         ensures is { λ r. ⌜ r ≡ (at + 1) % now (self .entry) .used ⌝ }
@@ -80,7 +80,7 @@ fn window(lo: u32, hi: u32, from: u32) -> u32
     (((u64::from(lo) + (u64::from(hi) << 32)) >> from) % (1 << 32)) as u32
 }
 
-// The word that thirty-two rounds bring in, with the complement `k` of the key's word. What waits on the newest word comes last.
+// The word that thirty-two rounds bring in, with the complement `k` of the key's word.
 fn mix(a: u32, b: u32, c: u32, d: u32, k: u32) -> u32
     ensures { λ r. ⌜ Brings (joined (a ∷ b ∷ c ∷ d ∷ [])) (flip k) r ⌝ }
 {

@@ -1,14 +1,14 @@
 -- A call that fills its whole out buffer leaves the sealed form, or the text, and nothing else.
 use Prim.Native.Nat.{ℕ, _+_}
 use mathlib.Core.Path.{_≡_, refl, sym, ap, _∙_}
-use mathlib.Core.List.{List, _++_}
+use mathlib.Core.List.{List}
 use native.Mathlib.Omega.{arith}
 use lib.ListN.{length, take, drop}
 use Rattle.std.proofs.shelf.Lists.{take-at}
 use lib.Seq.{take-length}
 use Rattle.std.specs.declared.option.Option.{Option}
 use Rattle.std.specs.declared.option.Option.the-variants.{Some, None}
-use Rattle.std.specs.declared.result.Result.the-variants.{Ok, Err}
+use Rattle.std.specs.declared.result.Result.the-variants.{Ok}
 use Rattle.tinyjambu.specs.declared.refusal.Refusal.{Refusal}
 use Rattle.tinyjambu.specs.Answers.{written, sealed-answer, sealed-out, opened-answer, opened-out}
 

@@ -3,7 +3,7 @@ use hex::decode;
 use std::alloc::AllocError;
 use std::alloc::Global;
 
-// One published case.
+// A case: inputs that the designers published, and the output that was computed for them.
 #[derive(Drop)]
 pub struct Case {
     pub key: Vec<u8>,

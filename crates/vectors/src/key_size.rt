@@ -28,7 +28,7 @@ impl KeySize {
         self.bits() / 8
     }
 
-    // The file of the published cases.
+    // The file of the cases.
     pub(crate) fn file(self) -> &'static str {
         match self {
             KeySize::Bits128 => "LWC_AEAD_KAT_128_96.txt",

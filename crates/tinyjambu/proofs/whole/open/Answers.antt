@@ -6,7 +6,8 @@ use lib.ListN.{length, replicate}
 use Rattle.std.specs.declared.option.Option.the-variants.{Some, None}
 use Rattle.std.specs.declared.result.Result.the-variants.{Ok, Err}
 use Rattle.std.proofs.shelf.Lists.{length-take-le}
-use Rattle.std.proofs.shelf.Tests.{ltb-false}
+use Rattle.std.specs.Options.{isSome}
+use Rattle.std.proofs.shelf.Tests.{ltb-false, both-ways}
 use Rattle.tinyjambu.specs.Answers.{longest, open-check}
 use Rattle.tinyjambu.specs.Mode.{opened}
 use Rattle.tinyjambu.proofs.Buffers.{length-part, written-part}
@@ -30,7 +31,7 @@ returns-then-not-recover g c =
     let none = ap (λ x. opened key x ad s) (sym (taken .1)) ∙ c .if-not-recover .ensures tt .text in
     let wiped = c .drop-guard-then-not-recover .ensures ∙ ap (λ k. replicate k 0) (length-part (c .recover .last .out) out (c .saturating-sub-len .result) fits (c .if-guard-len .left)) in
     let done = opened-by key n ad s out (open-check (length n) (length ad) (length s) (length out)) None _ _ check none (ap Err (c .outside-then-not-recover .ensures)) wiped in
-    record { answer = done .answer; out = done .bytes; exact = λ _. done .exact; same = c .recover .ensures .same }
+    record { answer = done .answer; out = done .bytes; exact = λ _. done .exact; refused = λ e. absurd (both-ways _ (ap isSome check) e); same = c .recover .ensures .same }
 
 pub returns : need.returns
 returns g c =
@@ -49,4 +50,4 @@ returns g c =
     let some = ap (λ x. opened key x ad s) (sym (taken .1)) ∙ c .if-not-recover .ensures tt .text in
     let kept = c .drop-guard-2 .ensures ∙ written-part t t out (c .saturating-sub-len .result) refl fits in
     let done = opened-by key n ad s out (open-check (length n) (length ad) (length s) (length out)) (Some t) _ _ check some (ap Ok (sym fits)) kept in
-    record { answer = done .answer; out = done .bytes; exact = λ _. done .exact; same = c .recover .ensures .same }
+    record { answer = done .answer; out = done .bytes; exact = λ _. done .exact; refused = λ e. absurd (both-ways _ (ap isSome check) e); same = c .recover .ensures .same }

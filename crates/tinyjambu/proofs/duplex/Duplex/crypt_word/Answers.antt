@@ -8,7 +8,7 @@ use Rattle.tinyjambu.proofs.duplex.Duplex.crypt_word.Needs as need
 
 pub returns : need.returns
 returns g c =
-    let e = c .long-run-state .ensures in
+    let e = c .framed-long-run-state .ensures in
     let k = c .stream-word .result in
     let t = text-of (c .args .direction) (c .args .word) (bitXor (c .args .word) k) in
     record {

@@ -5,7 +5,7 @@ use lib.ListN.{length, take}
 use Rattle.tinyjambu.specs.Bytes.{joined}
 use Rattle.tinyjambu.specs.History.{Took-text, sealed-piece}
 use Rattle.tinyjambu.specs.Message.{message}
-use Rattle.tinyjambu.proofs.pieces.crypt_pieces.Given as given
+use Rattle.tinyjambu.proofs.pieces.seal_texts.Given as given
 
 abbrev pub Inv-loop-piece : given.InvT-loop-piece
 Inv-loop-piece g l =

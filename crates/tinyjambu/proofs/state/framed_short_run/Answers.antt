@@ -1,7 +1,7 @@
 use Rattle.tinyjambu.specs.Bytes.{joined}
 use Rattle.tinyjambu.specs.Mode.{short-rounds, frame}
 use Rattle.tinyjambu.proofs.States.{joined-run}
-use Rattle.tinyjambu.proofs.state.short_run.Needs as need
+use Rattle.tinyjambu.proofs.state.framed_short_run.Needs as need
 
 pub returns : need.returns
 returns g c = record {

@@ -1,7 +1,7 @@
 use Rattle.tinyjambu.specs.Bytes.{joined}
 use Rattle.tinyjambu.specs.Mode.{long-rounds, frame}
 use Rattle.tinyjambu.proofs.States.{joined-run}
-use Rattle.tinyjambu.proofs.state.long_run.Needs as need
+use Rattle.tinyjambu.proofs.state.framed_long_run.Needs as need
 
 pub returns : need.returns
 returns g c = record {

@@ -9,7 +9,7 @@ use Rattle.tinyjambu.specs.Bytes.{joined}
 use Rattle.tinyjambu.specs.History.{Took-text, sealed-piece}
 use Rattle.tinyjambu.specs.Message.{message}
 use Rattle.tinyjambu.proofs.Messages.{nothing, message-more, message-all, end-within, text-piece}
-use Rattle.tinyjambu.proofs.pieces.crypt_pieces.Needs as need
+use Rattle.tinyjambu.proofs.pieces.seal_texts.Needs as need
 
 pub add-end : need.add-end
 add-end g c =
