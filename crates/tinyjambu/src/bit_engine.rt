@@ -1,7 +1,6 @@
 ghost use mathlib.Core.Path.{_≡_};
 ghost use Prim.Native.Nat.{_+_, _*_, _/_, _%_, _^_};
 ghost use Rattle.tinyjambu.specs.Permutation.{rounds, taps, bit};
-ghost use Rattle.tinyjambu.specs.Bytes.{words};
 ghost use Rattle.tinyjambu.specs.Keys.{key-of, key-of-sized};
 use crate::engine::Engine;
 use crate::key::Key;

@@ -3,7 +3,7 @@ ghost use mathlib.Core.List.{List, [], _++_};
 ghost use Prim.Native.Nat.{ℕ, _+_, _*_, _/_, _%_, _^_, _<_};
 ghost use lib.Bits.{bitXor};
 ghost use lib.ListN.{length};
-ghost use Rattle.tinyjambu.specs.Bytes.{joined, bytes, word-bytes};
+ghost use Rattle.tinyjambu.specs.Bytes.{joined, word-bytes};
 ghost use Rattle.tinyjambu.specs.Mode.{stream, nonce-word, data-run, text-run, tag};
 ghost use Rattle.tinyjambu.specs.Duplex.{phase-run, entered, fed-byte, sealed-byte, closed, text-of, sealed-of};
 ghost use Rattle.tinyjambu.specs.History.{Took-data, Took-text, sealed-piece, sealed-tag};
@@ -187,7 +187,7 @@ impl Duplex {
         }
     }
 
-    // The two words of the tag, once the text is closed.
+    // The eight bytes of the tag, once the text is closed.
     fn tag_bytes<E: Engine>(&self, engine: &mut E) -> [u8; 8]
         ensures result { λ r. ⌜ r ≡ tag (key (now (engine .entry))) (joined (now (self .entry) .state)) ⌝ }
         ensures same { λ _. ⌜ key (now (engine .exit)) ≡ key (now (engine .entry)) ⌝ }

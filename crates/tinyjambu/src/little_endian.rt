@@ -5,11 +5,11 @@ ghost use mathlib.Core.List.{_++_};
 ghost use Rattle.tinyjambu.specs.Bytes.{number, bytes};
 
 // The word of the four bytes from `at` on, the least byte first.
-pub(crate) fn load(bytes: &[u8], at: usize) -> u32
-    requires { ⌜ at + 4 ≤ length (now bytes) ⌝ }
-    ensures { λ r. ⌜ r ≡ number (take 4 (drop at (now (bytes .entry)))) ⌝ }
+pub(crate) fn load(source: &[u8], at: usize) -> u32
+    requires { ⌜ at + 4 ≤ length (now source) ⌝ }
+    ensures { λ r. ⌜ r ≡ number (take 4 (drop at (now (source .entry)))) ⌝ }
 {
-    u32::from_le_bytes([bytes[at], bytes[at + 1], bytes[at + 2], bytes[at + 3]])
+    u32::from_le_bytes([source[at], source[at + 1], source[at + 2], source[at + 3]])
 }
 
 // Writes the four bytes of a word from `at` on, the least byte first.

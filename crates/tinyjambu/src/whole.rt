@@ -8,7 +8,7 @@ ghost use Rattle.std.specs.declared.option.Option.the-variants.{Some, None};
 ghost use Rattle.tinyjambu.specs.Answers.{seal-answer, seal-out, open-refusal, open-answer, open-out};
 ghost use Rattle.tinyjambu.specs.Bytes.{word-bytes};
 ghost use Rattle.tinyjambu.specs.Nonce.{nonce-words};
-ghost use Rattle.tinyjambu.specs.Mode.{seal, opened, same};
+ghost use Rattle.tinyjambu.specs.Mode.{opened, same};
 ghost use Rattle.tinyjambu.specs.Laws.{Opens-exactly};
 use crate::direction::Direction;
 use crate::duplex::Duplex;

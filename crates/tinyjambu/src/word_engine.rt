@@ -3,7 +3,7 @@ ghost use mathlib.Core.List.{[], _∷_};
 ghost use Prim.Native.Nat.{_+_, _*_, _/_, _%_, _^_, _<_, _≤_};
 ghost use lib.ListN.{length};
 ghost use Rattle.tinyjambu.specs.Permutation.{rounds};
-ghost use Rattle.tinyjambu.specs.Bytes.{joined, words};
+ghost use Rattle.tinyjambu.specs.Bytes.{joined};
 ghost use Rattle.tinyjambu.specs.Mode.{long-rounds};
 ghost use Rattle.tinyjambu.specs.Keys.{key-of, key-of-sized};
 ghost use Rattle.tinyjambu.specs.Turns.{Brings, flipped, flip, flipped-stored};

@@ -6,5 +6,5 @@ use Rattle.tinyjambu.proofs.little_endian.load.Needs as need
 
 pub returns : need.returns
 returns c =
-    let e = ap number (four-at (c .args .bytes .now) (c .args .at) (c .pre)) in
+    let e = ap number (four-at (c .args .source .now) (c .args .at) (c .pre)) in
     omega (arith, e, c .from-le-bytes .ensures)
