@@ -2,6 +2,7 @@ mod alteration;
 mod failures;
 mod label;
 mod nonce;
+mod pocket_calls;
 mod sealed_bytes;
 mod studio_key;
 
@@ -10,6 +11,7 @@ use crate::failures::failure;
 use crate::label::Kind;
 use crate::label::Label;
 use crate::nonce::Nonce;
+use crate::pocket_calls::work_pocket;
 use crate::sealed_bytes::all_zero;
 use crate::sealed_bytes::tag_of;
 use crate::studio_key::KeyFaultDisplay;
@@ -126,7 +128,7 @@ fn check_altered(rt: &LibcRuntime, key: Key, sealed: &mut [u8]) -> Result<(), An
     Ok(())
 }
 
-// Checks one revision in, and looks at what was stored.
+// Checks one revision in, looks at what was stored, and keeps it in a pocket.
 fn run(rt: &LibcRuntime) -> Result<(), AnyError> {
     let key = read_key_file(rt)?;
     println!(rt, "{KEY_FILE}: a key of 16 bytes")?;
@@ -138,6 +140,7 @@ fn run(rt: &LibcRuntime) -> Result<(), AnyError> {
     let len = sealed.len();
     println!(rt, "{SEALED_FILE}: read back, {len} bytes")?;
     check_out(rt, key, &scene, &sealed)?;
+    work_pocket(rt, &sealed)?;
     check_altered(rt, key, &mut sealed)
 }
 

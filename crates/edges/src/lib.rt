@@ -15,6 +15,8 @@ mod keys;
 mod limits;
 #[cfg(test)]
 mod order;
+#[cfg(test)]
+mod pocket;
 mod session_use;
 #[cfg(test)]
 mod shown;

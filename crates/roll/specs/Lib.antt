@@ -1,0 +1,9 @@
+pub mod Roll
+pub mod Floor
+pub mod Laws
+pub mod Life
+pub mod Teeth
+pub mod Work
+pub mod Kinds
+pub mod Pocket
+pub mod PocketLaws
