@@ -2,12 +2,8 @@
 use Prim.Native.Nat.{ℕ}
 use mathlib.Core.List.{List, [], _∷_}
 use Rattle.tinyjambu.specs.Bytes.{word-bytes}
-use Rattle.checkin.specs.declared.label.Kind.{Kind}
-use Rattle.checkin.specs.declared.label.Kind.the-variants.{Scene}
+use Rattle.roll.specs.Kinds.{kind-byte}
 use Rattle.checkin.specs.declared.label.Label.{Label}
-
-abbrev pub kind-byte : Kind → ℕ
-kind-byte Scene = 1
 
 abbrev pub nonce-of : Label → List ℕ
 nonce-of l = word-bytes (l .nonce .name ∷ l .nonce .floor ∷ l .nonce .entry ∷ [])

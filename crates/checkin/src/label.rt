@@ -2,25 +2,11 @@ ghost use mathlib.Core.Path.{_≡_};
 ghost use lib.ListN.{length};
 ghost use Rattle.tinyjambu.specs.Answers.{seal-answer, seal-out, open-answer, open-out};
 ghost use Rattle.tinyjambu.specs.Mode.{seal};
-ghost use Rattle.checkin.specs.Labels.{nonce-of, data-of, kind-byte};
+ghost use Rattle.checkin.specs.Labels.{nonce-of, data-of};
 use crate::nonce::Nonce;
+use roll::Kind;
 use tinyjambu::Engine;
 use tinyjambu::Fault;
-
-// What a revision is of. The number of each kind is the associated data of its revisions.
-#[derive(Clone, Copy)]
-pub enum Kind {
-    Scene = 1,
-}
-
-impl Kind {
-    // The number of the kind.
-    pub(crate) fn byte(self) -> u8
-        ensures { λ r. ⌜ r ≡ kind-byte self ⌝ }
-    {
-        self as u8
-    }
-}
 
 // What a revision is sealed under, besides the key: its nonce, and what it is of.
 #[derive(Clone, Copy)]

@@ -8,7 +8,6 @@ mod studio_key;
 
 use crate::alteration::altered;
 use crate::failures::failure;
-use crate::label::Kind;
 use crate::label::Label;
 use crate::nonce::Nonce;
 use crate::pocket_calls::work_pocket;
@@ -18,6 +17,7 @@ use crate::studio_key::KeyFaultDisplay;
 use crate::studio_key::read_key;
 use hex::Hex;
 use hex::HexDisplay;
+use roll::Kind;
 use std::error::AnyError;
 use std::fs;
 use tinyjambu::BitEngine;

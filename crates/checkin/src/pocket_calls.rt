@@ -42,18 +42,27 @@ fn print_answer(rt: &LibcRuntime, call: &Call<'_>, answer: &Answer) -> Result<()
     Ok(())
 }
 
-// Works a list of calls on a pocket, with a sealed revision as its first entry, and prints the answers.
+// Works a list of calls on a pocket, which a sealed revision fills in the end, and prints the answers.
 pub(crate) fn work_pocket(rt: &LibcRuntime, sealed: &[u8]) -> Result<(), AnyError> {
     let heap = rt.alloc();
     let calls = [
         Call::Append(sealed),
-        Call::Append(sealed),
         Call::Append(&sealed[0..0]),
+        Call::Append(sealed),
+        Call::Append(sealed),
+        Call::Append(sealed),
+        Call::Append(sealed),
+        Call::Append(sealed),
+        Call::Append(sealed),
+        Call::Append(sealed),
+        Call::Name,
+        Call::Floor,
+        Call::Bound,
         Call::Count,
         Call::Space,
         Call::Charge(65),
         Call::Length(1),
-        Call::Read(3),
+        Call::Read(8),
         Call::Read(0),
     ];
     let mut pocket = hand_in(Pocket::new(NAME));

@@ -53,6 +53,7 @@ entry-from bytes (n ∷ ns) at zero h = ap (λ k. Some (text (take n (drop k byt
 entry-from bytes (n ∷ ns) at (suc i) h =
     entry-from bytes ns (at + paged n) i (omega arith) ∙ ap (λ k. Some (text (take (getD ns i 0) (drop k bytes)))) (add-assoc at (paged n) (paged-all (take i ns)))
 
+-- behind the last entry there is none
 entry-past : (bytes ns : List ℕ) (at i : ℕ) → length ns ≤ i → first (drop i (entries-at bytes at ns)) ≡ None
 entry-past bytes [] at zero h = refl
 entry-past bytes [] at (suc i) h = refl
@@ -61,6 +62,7 @@ entry-past bytes (n ∷ ns) at (suc i) h = entry-past bytes ns (at + paged n) i 
 
 -- the same of a pocket of which the first c lengths count
 module _ (name : ℕ) (bytes ls : List ℕ) (c : ℕ) (h : c ≤ length ls) where
+  -- there is an entry of each number below the count
   pub pocket-entry : (i : ℕ) → i < c → entry (pocket name bytes (take c ls)) i ≡ Some (text (take (getD ls i 0) (drop (paged-all (take i ls)) bytes)))
   pocket-entry i l =
       let n = length-take-le c ls h in
@@ -68,6 +70,7 @@ module _ (name : ℕ) (bytes ls : List ℕ) (c : ℕ) (h : c ≤ length ls) wher
       ∙ ap₂ (λ x ns. Some (text (take x (drop (0 + paged-all ns) bytes)))) (getD-take c ls i 0 l) (take-take i c ls (omega arith))
       ∙ ap (λ k. Some (text (take (getD ls i 0) (drop k bytes)))) (omega arith)
 
+  -- and of no other
   pub pocket-no-entry : (i : ℕ) → c ≤ i → entry (pocket name bytes (take c ls)) i ≡ None
   pocket-no-entry i l = entry-past bytes (take c ls) 0 i (omega (arith, length-take-le c ls h))
 
@@ -76,11 +79,13 @@ same-part : (bytes next : List ℕ) (u at n : ℕ) → take u next ≡ take u by
 same-part bytes next u at n e h =
     sym (drop-take at n next) ∙ ap (drop at) (sym (take-take (at + n) u next h) ∙ ap (take (at + n)) e ∙ take-take (at + n) u bytes h) ∙ drop-take at n bytes
 
+-- the entries below u are the same
 entries-same : (bytes next : List ℕ) (u at : ℕ) (ns : List ℕ) → take u next ≡ take u bytes → at + paged-all ns ≤ u → entries-at next at ns ≡ entries-at bytes at ns
 entries-same bytes next u at [] e h = refl
 entries-same bytes next u at (n ∷ ns) e h =
     ap₂ (λ t es. text t ∷ es) (same-part bytes next u at n e (omega arith)) (entries-same bytes next u (at + paged n) ns e (omega arith))
 
+-- the entries of two lists of lengths
 entries-append : (bytes : List ℕ) (at : ℕ) (ns ms : List ℕ) → entries-at bytes at (ns ++ ms) ≡ entries-at bytes at ns ++ entries-at bytes (at + paged-all ns) ms
 entries-append bytes at [] ms = ap (λ k. entries-at bytes k ms) (omega arith)
 entries-append bytes at (n ∷ ns) ms =
@@ -89,12 +94,15 @@ entries-append bytes at (n ∷ ns) ms =
 
 -- what an accepted append makes of a pocket
 module _ (name : ℕ) (bytes ns t : List ℕ) (whole : length bytes ≡ 4096) (short : length t < 513) (paid : paged-all ns + paged (length t) ≤ 4096) where
+  -- the pages in use
   abbrev used : ℕ
   used = paged-all ns
 
+  -- a pocket by what an append changes of it
   abbrev with-parts : ℕ → List Entry → Meaning
   with-parts space entries = record { name = name; floor = 0; bound = 513; space = space; charge = pocket-charge; entries = entries }
 
+  -- the bytes and lengths after the append mean the roll with one text more
   pub pocket-grown : pocket name (pocket-put bytes ns t) (ns ++ length t ∷ []) ≡ grown (pocket name bytes ns) t
   pocket-grown =
       let next : List ℕ = pocket-put bytes ns t in
@@ -106,9 +114,11 @@ module _ (name : ℕ) (bytes ns t : List ℕ) (whole : length bytes ≡ 4096) (s
       ap₂ with-parts (omega (arith, paged-append ns (length t ∷ []), charge-is (length t) short))
       (entries-append next 0 ns (length t ∷ []) ∙ ap₂ (λ es x. es ++ text x ∷ []) (entries-same bytes next used 0 ns low (omega arith)) last)
 
+  -- the append is accepted
   pub pocket-takes : length ns ≤ 64 → Takes (pocket name bytes ns) t
   pocket-takes few = record { fits = short; room = omega (arith, entries-count bytes 0 ns); paid = omega (arith, charge-is (length t) short) }
 
+  -- so they mean the roll after the append
   pub pocket-after : length ns ≤ 64 → append-after (pocket name bytes ns) t ≡ pocket name (pocket-put bytes ns t) (ns ++ length t ∷ [])
   pocket-after few = after-is (pocket name bytes ns) t _ (taken (pocket name bytes ns) t (pocket-takes few)) ∙ sym pocket-grown
 
@@ -133,13 +143,16 @@ out-by o out r = elim r [ Err _ ↦ replicate (length out) 0 | Ok n ↦ elim o [
 
 -- a read of no entry, of one that is too long for the buffer, and of one that fits
 module _ (m : Meaning) (i : ℕ) (out : List ℕ) where
+  -- there is no entry
   pub read-none : entry m i ≡ None → (read-answer m i (length out) ≡ Err (fault NoEntry (m .floor) i)) × (read-out m i out ≡ replicate (length out) 0)
   read-none e = let a = ap (read-by m i (length out)) e in (a, ap (out-by (entry m i) out) a)
 
+  -- the buffer is too short
   pub read-long : (t : List ℕ) → entry m i ≡ Some (text t) → length out < length t
       → (read-answer m i (length out) ≡ Err (fault OutTooShort (m .floor) i)) × (read-out m i out ≡ replicate (length out) 0)
   read-long t e h = let a = ap (read-by m i (length out)) e ∙ cond-true _ _ _ (lt-ltb (length out) (length t) h) in (a, ap (out-by (entry m i) out) a)
 
+  -- the text is read
   pub read-text : (t : List ℕ) → entry m i ≡ Some (text t) → length t ≤ length out
       → (read-answer m i (length out) ≡ Ok (length t)) × (read-out m i out ≡ t ++ drop (length t) out)
   read-text t e h =
@@ -168,12 +181,15 @@ row-free ns n h = omega (arith, paged-many ns)
 
 -- a refused append of a pocket: its answer, and that nothing changes
 module _ (name : ℕ) (bytes ls t : List ℕ) (c : ℕ) (h : c ≤ length ls) where
+  -- the pocket
   abbrev holds : Meaning
   holds = pocket name bytes (take c ls)
 
+  -- the text is too long
   pub pocket-long : 513 ≤ length t → append-answer holds t ≡ Err (fault EntryTooLong 0 c)
   pocket-long l = cond-true _ _ _ (le-leb 513 (length t) l) ∙ ap (λ n. Err (fault EntryTooLong 0 n)) (pocket-count name bytes ls c h)
 
+  -- the pages left are too few
   pub pocket-no-space : length t < 513 → c ≤ 64 → 4096 - paged-all (take c ls) < paged (length t) → append-answer holds t ≡ Err (fault NoSpace 0 c)
   pocket-no-space s few l =
       let n = pocket-count name bytes ls c h in

@@ -13,6 +13,7 @@ use Rattle.roll.proofs.Rolls.{Rising}
 use Rattle.roll.proofs.Piles.{piled-lawful}
 
 module _ {A : Type 0} where
+  -- what follows for each
   pub each-map : (P Q : A → Type 0) (xs : List A) → ((x : A) → P x → Q x) → Each P xs → Each Q xs
   each-map P Q [] f h = tt
   each-map P Q (x ∷ xs) f h = (f x (h .0), each-map P Q xs f (h .1))
@@ -35,16 +36,20 @@ record Stamp (top low high : ℕ) (s : Seal) : Type 0 where
   pub below : entry < high
   pub is : s .nonce ≡ nonce name floor entry
 
+-- wider limits
 wider : (top low high top′ low′ high′ : ℕ) (s : Seal) → top ≤ top′ → low′ ≤ low → high ≤ high′ → Stamp top low high s → Stamp top′ low′ high′ s
 wider top low high top′ low′ high′ s p q r h =
     record { name = h .name; floor = h .floor; entry = h .entry; under = omega (arith, h .under); least = omega (arith, h .least); below = omega (arith, h .below); is = h .is }
 
+-- a number is told by its four bytes
 number-bytes : (n : ℕ) → n < 2 ^ 32 → number (bytes 4 n) ≡ n
 number-bytes n h = omega arith
 
+-- nonces that are the same have the same floor
 nonce-floor : (n f i m g j : ℕ) → f < 2 ^ 32 → g < 2 ^ 32 → nonce n f i ≡ nonce m g j → f ≡ g
 nonce-floor n f i m g j hf hg e = sym (number-bytes f hf) ∙ (ap (λ bs. number (take 4 (drop 4 bs))) e ∙ number-bytes g hg)
 
+-- and the same entry
 nonce-entry : (n f i m g j : ℕ) → i < 2 ^ 32 → j < 2 ^ 32 → nonce n f i ≡ nonce m g j → i ≡ j
 nonce-entry n f i m g j hi hj e = sym (number-bytes i hi) ∙ (ap (λ bs. number (drop 8 bs)) e ∙ number-bytes j hj)
 
@@ -52,11 +57,13 @@ nonce-entry n f i m g j hi hj e = sym (number-bytes i hi) ∙ (ap (λ bs. number
 floors-differ : (l : Layer) (m : Meaning) (i top low high : ℕ) (u : Seal) → top < above m → above m < 2 ^ 32 → Stamp top low high u → Pair (seal-at l m i) u → ⊥
 floors-differ l m i top low high u h k w p = omega (arith, h, w .under, nonce-floor _ _ _ _ _ _ k (omega (arith, w .under)) (p .1 ∙ w .is))
 
+-- sealings of different entries differ
 entries-differ : (top low i high : ℕ) (s u : Seal) → high ≤ 2 ^ 32 → i ≤ high → Stamp top low i s → Stamp top i high u → Pair s u → ⊥
 entries-differ top low i high s u h k v w p =
     omega (arith, v .below, w .least, nonce-entry _ _ _ _ _ _ (omega (arith, v .below)) (omega (arith, w .below)) (sym (v .is) ∙ (p .1 ∙ w .is)))
 
 module _ (b : Meaning) (lawful : Lawful b) where
+  -- the sealings of one entry are within their limits
   stamped : (ls : List Layer) (i : ℕ) → Each (Stamp (piled ls b .floor) i (i + 1)) (seals ls b i)
   unfolding raised
   stamped [] i = tt
@@ -65,6 +72,7 @@ module _ (b : Meaning) (lawful : Lawful b) where
     each-map _ _ (seals ls b i) (λ u h. wider _ _ _ _ _ _ u (omega (arith, piled-lawful ls b lawful .low)) (omega arith) (omega arith) h) (stamped ls i),
   )
 
+  -- and differ, floor by floor
   seals-differ : (ls : List Layer) (i : ℕ) → 0 < piled ls b .bound → Differ (seals ls b i)
   unfolding raised
   seals-differ [] i h = tt
@@ -74,6 +82,7 @@ module _ (b : Meaning) (lawful : Lawful b) where
         seals-differ ls i (omega arith),
       )
 
+  -- the sealings of all accepted entries are within theirs
   all-stamped : (ls : List Layer) (low : ℕ) (ks : List Kept) → Rising (piled ls b .bound) low ks → Each (Stamp (piled ls b .floor) low 4095) (all-seals ls b ks)
   all-stamped ls low [] r = tt
   all-stamped ls low (k ∷ ks) r =
@@ -81,6 +90,7 @@ module _ (b : Meaning) (lawful : Lawful b) where
       (each-map _ _ _ (λ u h. wider _ _ _ _ _ _ u (omega arith) (r .1) (omega (arith, r .2)) h) (stamped ls (k .number)))
       (each-map _ _ _ (λ u h. wider _ _ _ _ _ _ u (omega arith) (omega (arith, r .1)) (omega arith) h) (all-stamped ls (k .number + 1) ks (r .3)))
 
+  -- and differ
   pub all-differ : (ls : List Layer) (low : ℕ) (ks : List Kept) → Rising (piled ls b .bound) low ks → Differ (all-seals ls b ks)
   all-differ ls low [] r = tt
   all-differ ls low (k ∷ ks) r =

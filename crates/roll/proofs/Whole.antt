@@ -16,6 +16,7 @@ top-ran ls b cs lawful =
     subst₂ (λ a rs. Ran (piled ls b) a (accepted cs rs)) (sym (top-after ls b cs)) (sym (top-answers ls b cs))
     (ran (piled ls b) cs (piled-lawful ls b lawful))
 
+-- the law, clause by clause
 pub life : Whole-life
 life ls b cs lawful = record {
   reads = λ i t g. entry-down ls a i t (reads-entry top i t (r .lawful) g) ∙ ap (λ x. Some (text x)) (sym (sealed-after ls b cs i t));
@@ -23,6 +24,7 @@ life ls b cs lawful = record {
   one = λ i t u e. sealed-one ls b i t u e;
   back = each-map _ _ _ (λ k e. gives-entry top (k .number) (k .what) (r .lawful) e) (r .back);
   stays = λ i t g. gives-entry top i t (r .lawful) (r .old i (text t) (reads-entry (piled ls b) i t (piled-lawful ls b lawful) g));
+  numbered = r .numbered;
   counted = r .counted;
   spent = r .spent;
   refused-if = λ t fits room dear. dear-refused top t (rw (r .charge) dear);

@@ -13,18 +13,22 @@ use Rattle.roll.specs.Work.{heard, all-heard, reads, told, texts-read, Worked}
 use Rattle.roll.proofs.Whole.{life}
 
 module _ (ls : List Layer) where
+  -- one call more: what becomes of the bottom
   after-push : (b : Meaning) (cs : List Call) (c : Call) → after ls b (cs ++ c ∷ []) ≡ stored ls (after ls b cs) (appends c)
   after-push b [] c = refl
   after-push b (x ∷ cs) c = after-push (stored ls b (appends x)) cs c
 
+  -- its answer
   answers-push : (b : Meaning) (cs : List Call) (c : Call) → answers ls b (cs ++ c ∷ []) ≡ answers ls b cs ++ answer (piled ls (after ls b cs)) c ∷ []
   answers-push b [] c = refl
   answers-push b (x ∷ cs) c = ap (λ rs. answer (piled ls b) x ∷ rs) (answers-push (stored ls b (appends x)) cs c)
 
+  -- the text that it reads
   texts-push : (b : Meaning) (cs : List Call) (c : Call) → texts-read ls b (cs ++ c ∷ []) ≡ texts-read ls b cs ++ told (piled ls (after ls b cs)) (reads c)
   texts-push b [] c = append-nil _
   texts-push b (x ∷ cs) c = rw (texts-push (stored ls b (appends x)) cs c, append-assoc)
 
+-- the call as it was given
 heard-push : (gs : List Given) (x : Given) → all-heard (gs ++ x ∷ []) ≡ all-heard gs ++ heard x ∷ []
 heard-push [] x = refl
 heard-push (y ∷ gs) x = ap (λ cs. heard y ∷ cs) (heard-push gs x)
@@ -35,6 +39,7 @@ pub record So-far (ls : List Layer) (start end : Meaning) (cs : List Call) (rs :
   pub read : ts ≡ texts-read ls start cs
   pub ended : end ≡ after ls start cs
 
+-- one call more
 further : (ls : List Layer) (b e : Meaning) (cs : List Call) (rs : List Answer) (ts : List ℕ) (c : Call)
     → So-far ls b e cs rs ts → So-far ls b (stored ls e (appends c)) (cs ++ c ∷ []) (rs ++ answer (piled ls e) c ∷ []) (ts ++ told (piled ls e) (reads c))
 further ls b e cs rs ts c s = record {
@@ -57,6 +62,7 @@ again ls ms b e f m gs i x r rs qs ts us s p q t pf pr pq pu =
       ended = rw (pf, p, t, k) (h .ended);
     }
 
+-- all calls worked
 worked : (ls : List Layer) (b e top : Meaning) (cs : List Call) (rs : List Answer) (ts : List ℕ)
     → Lawful b → So-far ls b e cs rs ts → top ≡ piled ls e → Worked ls b e top cs rs ts
 worked ls b e top cs rs ts lawful s p = record {

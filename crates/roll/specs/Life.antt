@@ -98,6 +98,11 @@ abbrev pub Each : {A : Type 0} → (A → Type 0) → List A → Type 0
 Each P [] = Unit {0}
 Each P (x ∷ xs) = P x × Each P xs
 
+-- the numbers of the accepted entries run on from n
+abbrev pub Numbered : ℕ → List Kept → Type 0
+Numbered n [] = Unit {0}
+Numbered n (k ∷ ks) = (k .number ≡ n) × Numbered (n + 1) ks
+
 -- every sealing that the accepted entries took, at every floor
 abbrev pub all-seals : List Layer → Meaning → List Kept → List Seal
 all-seals ls b [] = []
@@ -142,6 +147,8 @@ pub record Life (ls : List Layer) (start end top : Meaning) (cs : List Call) (rs
   -- each accepted entry reads back, and what could be read at the start still can
   pub back : Each (λ k. Gives top (k .number) (k .what)) (accepted cs rs)
   pub stays : (i : ℕ) (t : List ℕ) → Gives (piled ls start) i t → Gives top i t
+  -- the accepted entries were numbered from the count at the start on, without a gap
+  pub numbered : Numbered (count (piled ls start)) (accepted cs rs)
   -- the count has risen by the accepted entries, and the space fallen by their charges
   pub counted : count top ≡ count (piled ls start) + length (accepted cs rs)
   pub spent : top .space + charges (piled ls start) (accepted cs rs) ≡ piled ls start .space

@@ -21,6 +21,7 @@ abbrev pub entries-at : List ℕ → ℕ → List ℕ → List Entry
 entries-at bytes at [] = []
 entries-at bytes at (n ∷ ns) = text (take n (drop at bytes)) ∷ entries-at bytes (at + paged n) ns
 
+-- what an entry costs: its pages, where it is short enough
 abbrev pub pocket-charge : ℕ → ℕ
 pocket-charge n = cond (ltb n 513) (paged n) 0
 

@@ -13,6 +13,7 @@ pub entries-count : (bytes : List ℕ) (at : ℕ) (ns : List ℕ) → length (en
 entries-count bytes at [] = refl
 entries-count bytes at (n ∷ ns) = ap suc (entries-count bytes (at + paged n) ns)
 
+-- no entry is longer than the memory
 entries-short : (bytes : List ℕ) (at : ℕ) (ns : List ℕ) → length bytes ≡ 4096 → Short-entries (entries-at bytes at ns)
 entries-short bytes at [] e = tt
 entries-short bytes at (n ∷ ns) e = (omega (arith, length-take n (drop at bytes), length-drop at bytes), entries-short bytes (at + paged n) ns e)
@@ -21,6 +22,7 @@ entries-short bytes at (n ∷ ns) e = (omega (arith, length-take n (drop at byte
 pub charge-is : (n : ℕ) → n < 513 → pocket-charge n ≡ paged n
 charge-is n h = cond-true _ _ _ (lt-ltb n 513 h)
 
+-- a pocket is lawful
 pub pocket-lawful : (name : ℕ) (bytes ns : List ℕ) → length bytes ≡ 4096 → length ns ≤ 64 → Lawful (pocket name bytes ns)
 pocket-lawful name bytes ns e few = record {
   few = omega (arith, entries-count bytes 0 ns);

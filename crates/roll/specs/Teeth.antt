@@ -18,6 +18,7 @@ use Rattle.roll.specs.Life.{Call, append, Kept, answers, accepted, Life}
 abbrev pub blank : Meaning
 blank = record { name = 7; floor = 0; bound = 4097; space = 1000; charge = λ n. cond (ltb n 4097) (n + 4) 0; entries = [] }
 
+-- two appends, of 2 bytes and of none
 abbrev pub two-appends : List Call
 two-appends = append (104 ∷ 105 ∷ []) ∷ append [] ∷ []
 
@@ -38,10 +39,10 @@ abbrev pub Uncounted-fails : Type 0
 Uncounted-fails = (ls : List Layer) (start end top : Meaning) (cs : List Call) (rs : List Answer) (k : Kept) (ks : List Kept)
     → accepted cs rs ≡ k ∷ ks → count top ≡ count (piled ls start) → Life ls start end top cs rs → ⊥
 
--- nor are two accepted texts under one number, where there is a floor
+-- nor are two accepted texts under one number
 abbrev pub Twice-fails : Type 0
-Twice-fails = (l : Layer) (ls : List Layer) (start end top : Meaning) (cs : List Call) (rs : List Answer) (before between rest : List Kept) (k u : Kept)
-    → accepted cs rs ≡ before ++ k ∷ (between ++ u ∷ rest) → k .number ≡ u .number → Life (l ∷ ls) start end top cs rs → ⊥
+Twice-fails = (ls : List Layer) (start end top : Meaning) (cs : List Call) (rs : List Answer) (before between rest : List Kept) (k u : Kept)
+    → accepted cs rs ≡ before ++ k ∷ (between ++ u ∷ rest) → k .number ≡ u .number → Life ls start end top cs rs → ⊥
 
 -- nor is a refusal of an append that is short enough, finds a number free and is paid for
 abbrev pub Miserly-fails : Type 0

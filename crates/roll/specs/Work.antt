@@ -24,6 +24,7 @@ heard Space = ask-space
 heard Count = ask-count
 heard (Charge n) = ask-charge n
 
+-- each call of a list
 abbrev pub all-heard : List Given → List Call
 all-heard [] = []
 all-heard (g ∷ gs) = heard g ∷ all-heard gs
@@ -45,6 +46,7 @@ abbrev pub text-at : Option Entry → List ℕ
 text-at None = []
 text-at (Some e) = text-of e
 
+-- the text that a call reads, where it reads one
 abbrev pub told : Meaning → Option ℕ → List ℕ
 told m None = []
 told m (Some i) = text-at (entry m i)

@@ -10,7 +10,7 @@ use tinyjambu::Refusal;
 use tinyjambu::Wipe;
 
 // A roll on 64 pages of 64 bytes of its own, in which each entry begins on a page of its own.
-#[derive(Clone, Copy)]
+#[derive(Drop)]
 pub struct Pocket {
     name: u32,
     bytes: [u8; 4096],
@@ -22,10 +22,10 @@ pub struct Pocket {
     ghost fits: { paged-all (take count lengths) ≤ 4096 },
 }
 
-// A pocket stands on no floor.
+// The floor number of a bottom.
 const FLOOR: u32 = 0;
 
-// Entries are shorter.
+// Every entry is shorter than this.
 const BOUND: u32 = 513;
 
 // The bytes of the pages that an entry takes, which is at least one.
@@ -39,7 +39,7 @@ fn paged(len: usize) -> usize
 impl Pocket {
     // An empty pocket under a name.
     pub fn new(name: u32) -> Pocket
-        ensures empty { λ r. ⌜ (r .name ≡ name) × (r .count ≡ 0) ⌝ }
+        ensures empty { λ r. ⌜ pocket (r .name) (r .bytes) (take (r .count) (r .lengths)) ≡ pocket name (replicate 4096 0) [] ⌝ }
         ensures blank { λ r. ⌜ r .bytes ≡ replicate 4096 0 ⌝ }
     {
         Pocket {

@@ -1,8 +1,9 @@
 ghost use mathlib.Core.Path.{_≡_};
 ghost use mathlib.Core.List.{_++_};
-ghost use Prim.Native.Nat.{_+_, _≤_};
+ghost use mathlib.Core.Bool.{true};
+ghost use Prim.Native.Nat.{_+_, _*_, _≤_};
 ghost use lib.ListN.{length};
-ghost use Rattle.std.specs.Results.{Cases};
+ghost use Rattle.std.specs.Results.{Cases, isOk};
 ghost use Rattle.std.specs.Of.Vec.{vec-items, vec-len, vec-cap};
 ghost use Rattle.roll.specs.Roll.{entry, read-answer};
 ghost use Rattle.roll.specs.Life.{answer, appends, stored};
@@ -20,7 +21,7 @@ fn read_text<R: Roll>(roll: &mut R, number: u32, texts: &mut Vec<u8>) -> Result<
     ensures told { λ _. ⌜ vec-items (now (texts .exit)) ≡ vec-items (now (texts .entry)) ++ text-at (entry (R·Roll .meaning (now (roll .entry))) number) ⌝ }
     ensures len { λ _. ⌜ vec-len (now (texts .exit)) ≤ vec-len (now (texts .entry)) + 4096 ⌝ }
     ensures room { λ _. ⌜ vec-cap (now (texts .entry)) ≤ vec-cap (now (texts .exit)) ⌝ }
-    ensures stands { λ _. ⌜ R·Roll .bottom (now (roll .exit)) ≡ R·Roll .bottom (now (roll .entry)) ⌝ }
+    ensures stored { λ _. ⌜ R·Roll .bottom (now (roll .exit)) ≡ R·Roll .bottom (now (roll .entry)) ⌝ }
     ensures floors { λ _. ⌜ R·Roll .layers (now (roll .exit)) ≡ R·Roll .layers (now (roll .entry)) ⌝ }
 {
     let mut out = [0u8; 4096];
@@ -38,7 +39,7 @@ fn one<R: Roll>(roll: &mut R, call: &Call<'_>, texts: &mut Vec<u8>) -> Answer
     ensures told { λ _. ⌜ vec-items (now (texts .exit)) ≡ vec-items (now (texts .entry)) ++ told (R·Roll .meaning (now (roll .entry))) (reads (heard (now (call .entry)))) ⌝ }
     ensures len { λ _. ⌜ vec-len (now (texts .exit)) ≤ vec-len (now (texts .entry)) + 4096 ⌝ }
     ensures room { λ _. ⌜ vec-cap (now (texts .entry)) ≤ vec-cap (now (texts .exit)) ⌝ }
-    ensures stands { λ _. ⌜ R·Roll .bottom (now (roll .exit)) ≡ stored (R·Roll .layers (now (roll .entry))) (R·Roll .bottom (now (roll .entry))) (appends (heard (now (call .entry)))) ⌝ }
+    ensures stored { λ _. ⌜ R·Roll .bottom (now (roll .exit)) ≡ stored (R·Roll .layers (now (roll .entry))) (R·Roll .bottom (now (roll .entry))) (appends (heard (now (call .entry)))) ⌝ }
     ensures floors { λ _. ⌜ R·Roll .layers (now (roll .exit)) ≡ R·Roll .layers (now (roll .entry)) ⌝ }
 {
     match call {
@@ -66,6 +67,7 @@ pub fn work<R: Roll>(
         (λ _. Worked (R·Roll .layers (now (roll .entry))) (R·Roll .bottom (now (roll .entry))) (R·Roll .bottom (now (roll .exit))) (R·Roll .meaning (now (roll .exit))) (all-heard (now (calls .entry))) (vec-items (now (answers .exit))) (vec-items (now (texts .exit))))
         (λ _. (now (roll .exit) ≡ now (roll .entry)) × (vec-items (now (answers .exit)) ≡ vec-items (now (answers .entry))) × (vec-items (now (texts .exit)) ≡ vec-items (now (texts .entry)))) ⌝ }
     ensures floors { λ _. ⌜ R·Roll .layers (now (roll .exit)) ≡ R·Roll .layers (now (roll .entry)) ⌝ }
+    ensures room { λ r. ⌜ (vec-len (now (answers .entry)) + length (now (calls .entry)) ≤ vec-cap (now (answers .entry)) → vec-len (now (texts .entry)) + 4096 * length (now (calls .entry)) ≤ vec-cap (now (texts .entry)) → isOk r ≡ true) ⌝ }
 {
     let Some(room) = calls.len().checked_mul(4096) else {
         return Err(AllocError);

@@ -1,3 +1,4 @@
+use mathlib.Core.Path.{refl}
 use mathlib.Core.List.{[]}
 use borrow.Author.Needs.{needs}
 use Rattle.std.proofs.shelf.Lists.{take-more}
@@ -12,7 +13,7 @@ loop-call-again g c =
     let one = c .one-answer .ensures in
     let more = take-more (c .args .calls .now) (c .loop-call .call-index) none (c .loop-call-test .taken) in (
       again _ _ _ _ _ _ (c .args .calls .now) (c .loop-call .call-index) _ _ _ _ _ _ (c .loop-call .inv .0) (c .loop-call .inv .1)
-          (g .R·Roll .stands (c .loop-call .roll)) more (one .stands) (one .result) (c .push-reserved .ensures .items) (one .told),
+          (g .R·Roll .stands (c .loop-call .roll)) more (one .stored) (one .result) (c .push-reserved .ensures .items) (one .told),
       search needs,
       search needs,
       search needs,
@@ -25,4 +26,5 @@ returns g c = record {
       all-worked _ _ _ _ _ (c .args .calls .now) (c .loop-call .call-index) _ _ (g .R·Roll .lawful (c .args .roll .now)) (c .loop-call .inv .0) (c .loop-call .inv .1)
       (g .R·Roll .stands (c .loop-call .roll)) (c .loop-call-test .left);
   floors = c .loop-call .inv .1;
+  room = λ _ _. refl;
 }

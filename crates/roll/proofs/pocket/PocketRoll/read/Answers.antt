@@ -14,7 +14,7 @@ returns-then-entry-self c =
     let i = c .args .entry in
     let m = pocket (p .name) (p .bytes) (take (p .count) (p .lengths)) in
     let done = read-none m i (c .args .out .now) (pocket-no-entry (p .name) (p .bytes) (p .lengths) (p .count) (omega arith) i (c .if-entry-self .taken)) in
-    record { answer = sym (done .0); out = c .drop-guard .ensures ∙ sym (done .1); same = refl; stands = refl; floors = refl; bytes = refl }
+    record { answer = sym (done .0); out = c .drop-guard .ensures ∙ sym (done .1); same = refl; stored = refl; floors = refl; bytes = refl }
 
 pub returns-then-guard-len : need.returns-then-guard-len
 returns-then-guard-len c =
@@ -24,7 +24,7 @@ returns-then-guard-len c =
     let e = pocket-entry (p .name) (p .bytes) (p .lengths) (p .count) (omega arith) i (c .if-entry-self .left) in
     let n = stored-length (p .bytes) (p .lengths) i (p .count) (c .if-entry-self .left) (omega arith) (omega arith) in
     let done = read-long m i (c .args .out .now) _ e (omega (arith, c .if-guard-len .taken)) in
-    record { answer = sym (done .0); out = c .drop-guard-then-guard-len .ensures ∙ sym (done .1); same = refl; stands = refl; floors = refl; bytes = refl }
+    record { answer = sym (done .0); out = c .drop-guard-then-guard-len .ensures ∙ sym (done .1); same = refl; stored = refl; floors = refl; bytes = refl }
 
 pub add-at : need.add-at
 add-at c =
@@ -44,4 +44,4 @@ returns c =
     let e = pocket-entry (p .name) (p .bytes) (p .lengths) (p .count) (omega arith) i (c .if-entry-self .left) in
     let n = stored-length (p .bytes) (p .lengths) i (p .count) (c .if-entry-self .left) (omega arith) (omega arith) in
     let done = read-text m i (c .args .out .now) _ e (omega (arith, c .if-guard-len .left)) in
-    record { answer = sym (done .0 ∙ ap Ok n); out = c .drop-guard-2 .ensures ∙ written-at (p .bytes) (c .args .out .now) _ _ _ _ (c .start-at .ensures) (c .copy-from-slice .ensures .after) n ∙ sym (done .1); same = refl; stands = refl; floors = refl; bytes = refl }
+    record { answer = sym (done .0 ∙ ap Ok n); out = c .drop-guard-2 .ensures ∙ written-at (p .bytes) (c .args .out .now) _ _ _ _ (c .start-at .ensures) (c .copy-from-slice .ensures .after) n ∙ sym (done .1); same = refl; stored = refl; floors = refl; bytes = refl }
