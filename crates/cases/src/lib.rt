@@ -1,3 +1,5 @@
+#![tactic(auto)]
+
 ghost use Rattle.cases.specs.Cases.{Table};
 
 // The worked cases at the edges hold of the definitions, for every key, memory, name and floor that they speak of.

@@ -1,3 +1,5 @@
+#![tactic(auto)]
+
 mod alteration;
 mod failures;
 mod label;
@@ -14,7 +16,7 @@ use crate::pocket_calls::work_pocket;
 use crate::sealed_bytes::{all_zero, tag_of};
 use crate::studio_key::read_key;
 use anyhow::anyhow;
-use hex::Hex;
+use hexadecimal::Hex;
 use roll::Kind;
 use std::fs;
 use tinyjambu::{BitEngine, Key, WordEngine};

@@ -1,8 +1,8 @@
-ghost use Rattle.hex.specs.Digits.{Spells};
+ghost use Rattle.hexadecimal.specs.Digits.{Spells};
 ghost use Rattle.std.specs.Prelude.{IfOk};
 ghost use Rattle.engine.specs.Keys.{key_of};
 
-use hex::{HexFault, decode};
+use hexadecimal::{HexFault, decode};
 use std::alloc::Global;
 use std::fmt;
 use tinyjambu::Key;

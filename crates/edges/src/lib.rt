@@ -1,3 +1,5 @@
+#![tactic(auto)]
+
 mod answer;
 #[cfg(test)]
 mod changes;

@@ -1,3 +1,5 @@
+#![tactic(auto)]
+
 mod bit_engine;
 mod engine;
 mod key;

@@ -1,3 +1,5 @@
+#![tactic(auto)]
+
 ghost use Rattle.std.specs.Prelude.{◌≡◌, [], ◌∷◌, Some};
 ghost use Rattle.engine.specs.Keys.{key_of};
 ghost use Rattle.roll.specs.Life.{image_by};

@@ -1,3 +1,5 @@
+#![tactic(auto)]
+
 mod floor;
 mod lay;
 mod nonces;

@@ -1,3 +1,5 @@
+#![tactic(auto)]
+
 // The calls for a C host, on byte slices: each passes as a pointer and a length. include/vurshade.h documents them for C.
 ghost use Rattle.std.specs.Prelude.{◌≡◌, ◌^◌, ◌<◌, IfOk};
 ghost use Rattle.host.specs.Host.{signed, host_seal_answer, host_seal_out, host_open_answer, host_open_out};

@@ -1,3 +1,5 @@
+#![tactic(auto)]
+
 use std::io::Read;
 use tape::listing;
 

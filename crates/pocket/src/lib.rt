@@ -1,3 +1,5 @@
+#![tactic(auto)]
+
 mod pocket;
 
 pub use pocket::Pocket;

@@ -1,3 +1,5 @@
+#![tactic(auto)]
+
 mod agreement;
 mod answer;
 mod call;

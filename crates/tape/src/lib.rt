@@ -1,3 +1,5 @@
+#![tactic(auto)]
+
 mod blanking;
 mod checking;
 mod copying;

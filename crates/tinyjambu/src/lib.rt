@@ -1,3 +1,5 @@
+#![tactic(auto)]
+
 mod direction;
 mod duplex;
 mod limits;

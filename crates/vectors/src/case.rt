@@ -1,4 +1,4 @@
-use hex::{HexFault, decode};
+use hexadecimal::{HexFault, decode};
 use std::alloc::{AllocError, Global};
 
 // A case: inputs that the designers published, and the output that was computed for them.

@@ -1,5 +1,5 @@
 ghost use Rattle.std.specs.Prelude.{◌≡◌, MatchResult};
-ghost use Rattle.hex.specs.Digits.{digit_value, pair_value, Spells, Refuses};
+ghost use Rattle.hexadecimal.specs.Digits.{digit_value, pair_value, Spells, Refuses};
 
 use crate::fault::HexFault;
 use std::alloc::Global;

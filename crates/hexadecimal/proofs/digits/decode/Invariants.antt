@@ -1,6 +1,6 @@
 use Rattle.std.proofs.Common.{◌≡◌, ℕ, ◌+◌, ◌*◌, ◌<◌, get_or, Some, vec_items, vec_len}
-use Rattle.hex.specs.Digits.{pair_value}
-use Rattle.hex.proofs.digits.decode.Given as goal
+use Rattle.hexadecimal.specs.Digits.{pair_value}
+use Rattle.hexadecimal.proofs.digits.decode.Given as goal
 
 -- each byte so far is that of its pair
 abbrev pub invariant-loop-i : goal.invariant-loop-i

@@ -1,7 +1,7 @@
 -- Bytes in hexadecimal.
 use Rattle.std.specs.Prelude.{◌≡◌, ℕ, ◌+◌, ◌-◌, ◌*◌, ◌%◌, ◌<◌, Bool, cond, ◌&&◌, List, length, Some, None, Option, nat_le, slice_index}
-use Rattle.hex.specs.declared.fault.HexFault.{HexFault}
-use Rattle.hex.specs.declared.fault.HexFault.TheVariants.{OddLength, NotADigit, NoMemory}
+use Rattle.hexadecimal.specs.declared.fault.HexFault.{HexFault}
+use Rattle.hexadecimal.specs.declared.fault.HexFault.TheVariants.{OddLength, NotADigit, NoMemory}
 
 -- the value of a digit: 0 to 9, A to F or a to f
 abbrev pub between : ℕ → ℕ → ℕ → Bool

@@ -1,5 +1,5 @@
 ghost use Rattle.std.specs.Prelude.{◌≡◌};
-ghost use Rattle.hex.specs.declared.fault.HexFault.TheVariants.{NoMemory};
+ghost use Rattle.hexadecimal.specs.declared.fault.HexFault.TheVariants.{NoMemory};
 
 use std::alloc::AllocFailed;
 

@@ -1,3 +1,5 @@
+#![tactic(auto)]
+
 mod digits;
 mod fault;
 mod shown;

@@ -1,5 +1,5 @@
 use Rattle.std.proofs.Common.{◌≡◌, ◌<◌, true, is_ok, vec_len, ap, arith, rules, below_more}
-use Rattle.hex.proofs.digits.decode.Goals as goal
+use Rattle.hexadecimal.proofs.digits.decode.Goals as goal
 
 -- the bytes so far stay, and the new one is that of the pair at i
 pub loop-i-preserved : goal.loop-i-preserved
