@@ -14,12 +14,12 @@ fits (Some r) o n h = tt
 fits None None n h = tt
 fits None (Some t) n h = h refl t refl
 
-pub as-signed-requires : goal.as-signed-requires
-as-signed-requires c =
+pub as_signed-requires : goal.as_signed-requires
+as_signed-requires c =
     let key : List ℕ = c.args.key.now in
     let n : List ℕ = c.args.nonce.now in
     let ad : List ℕ = c.args.ad.now in
     let s : List ℕ = c.args.sealed.now in
     let check = open_check (length n) (length ad) (length s) (length c.args.out.now) in
-    rw c.open-under.ensures.answer (fits (host_check key check) (opened key n ad s) 9223372036854775808
+    rw c.open_under.ensures.answer (fits (host_check key check) (opened key n ad s) 9223372036854775808
     (λ e t f. omega (arith, opened-length key n ad s t f, open_check-short (length n) (length ad) (length s) (length c.args.out.now) (none_taken (is_key_size (length key)) KeyLength check e).1)))

@@ -8,7 +8,7 @@ four w = ap₂ (λ x y. w % 256 ∷ w / 256 % 256 ∷ x ∷ y ∷ []) (omega ari
 
 pub returns : goal.returns
 returns c =
-    let name = c.to-le-bytes.ensures ∙ four c.args.name in
-    let floor = c.to-le-bytes-2.ensures ∙ four c.args.floor in
-    let entry = c.to-le-bytes-3.ensures ∙ four c.args.entry in
+    let name = c.to_le_bytes.ensures ∙ four c.args.name in
+    let floor = c.to_le_bytes-2.ensures ∙ four c.args.floor in
+    let entry = c.to_le_bytes-3.ensures ∙ four c.args.entry in
     rw (name, floor, entry)

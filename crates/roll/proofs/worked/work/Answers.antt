@@ -11,7 +11,7 @@ loop-call-preserved g c =
     let one = c.one-answer.ensures in
     let more = take_more c.args.calls.now c.loop-call.call-index none c.loop-call-test.true in (
       again _ _ _ _ _ _ _ _ _ _ c.args.calls.now c.loop-call.call-index _ _ _ _ _ _ c.loop-call.invariant.0 c.loop-call.invariant.1
-          (g.R.Roll.stands c.loop-call.roll) more one.stored one.bytes one.result c.push-reserved.ensures.items one.told,
+          (g.R.Roll.stands c.loop-call.roll) more one.stored one.bytes one.result c.push_reserved.ensures.items one.told,
       search rules,
       search rules,
       search rules,

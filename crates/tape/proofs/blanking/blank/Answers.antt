@@ -11,12 +11,12 @@ pub returns : goal.returns
 returns c =
     let memory : List ℕ = c.args.memory.now in
     let name = c.args.name in
-    let fits = sym c.if-not-is-tape-length.ensures in
+    let fits = sym c.if-not-is_tape_length.ensures in
     let both = and_parts (leb 16 (length memory)) (leb (length memory) 65536) fits in
     let long = leb-true _ _ both.0 in
     let short = leb-true _ _ both.1 in
-    let two = c.write-word-2.ensures ∙ ap (written 4 (bytes 4 0)) c.write-word.ensures in
-    let four = c.write-word-4.ensures ∙ ap (written 12 (bytes 4 (length memory))) (c.write-word-3.ensures ∙ ap (written 8 (bytes 4 16)) two) in
+    let two = c.write_word-2.ensures ∙ ap (written 4 (bytes 4 0)) c.write_word.ensures in
+    let four = c.write_word-4.ensures ∙ ap (written 12 (bytes 4 (length memory))) (c.write_word-3.ensures ∙ ap (written 8 (bytes 4 16)) two) in
     let wrote = four ∙ header_written name memory (omega arith) long short in
     record {
       answer = sym (cond-true _ _ _ fits);

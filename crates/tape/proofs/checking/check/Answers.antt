@@ -6,10 +6,10 @@ use Rattle.tape.proofs.Orders.{fails_length, in_order_is, judged_order, judged_d
 use Rattle.tape.proofs.Tapes.{tape_is, tape-nothing, tape_count}
 use Rattle.tape.proofs.checking.check.Goals as goal
 
-pub returns-then-not-is-tape-length : goal.returns-then-not-is-tape-length
-returns-then-not-is-tape-length c =
+pub returns-then-not-is_tape_length : goal.returns-then-not-is_tape_length
+returns-then-not-is_tape_length c =
     let memory : List ℕ = c.args.memory.now in
-    let short = sym c.if-not-is-tape-length.ensures in
+    let short = sym c.if-not-is_tape_length.ensures in
     let f = fails_length memory short in
     record { answer = ap Err c.outside.ensures ∙ sym (cond-false _ _ _ short); finds = (λ o. both_ways (in_order memory) f (in_order_is memory o), tape-nothing memory f) }
 
@@ -21,7 +21,7 @@ overflow-cast-result c =
 pub returns-in-Some : goal.returns-in-Some
 returns-in-Some c =
     let memory : List ℕ = c.args.memory.now in
-    let fits = sym c.if-not-is-tape-length.ensures in
+    let fits = sym c.if-not-is_tape_length.ensures in
     let o = judged_order memory _ (sym c.judge.ensures ∙ c.in-Some.is) in
     let n = ap (λ x. x.count) o.1 in
     record {
@@ -32,7 +32,7 @@ returns-in-Some c =
 pub returns-in-None : goal.returns-in-None
 returns-in-None c =
     let memory : List ℕ = c.args.memory.now in
-    let fits = sym c.if-not-is-tape-length.ensures in
+    let fits = sym c.if-not-is_tape_length.ensures in
     let f = judged_disorder memory (sym c.judge.ensures ∙ c.in-None.is) in
     record {
       answer = ap Err c.outside-in-None.ensures ∙ sym (cond-true _ _ _ fits ∙ cond-false _ _ _ f);

@@ -5,31 +5,31 @@ use Rattle.tape.specs.declared.extent.Extent.{Extent}
 use Rattle.tape.proofs.Orders.{begin_next, every_more, gone, header_room, passes, fails_length, fails_header, fails_entry, fails_end}
 use Rattle.tape.proofs.judging.judge.Goals as goal
 
-pub returns-then-not-is-tape-length : goal.returns-then-not-is-tape-length
-returns-then-not-is-tape-length c = sym (cond-false _ _ _ (fails_length c.args.memory.now (sym c.if-not-is-tape-length.ensures)))
+pub returns-then-not-is_tape_length : goal.returns-then-not-is_tape_length
+returns-then-not-is_tape_length c = sym (cond-false _ _ _ (fails_length c.args.memory.now (sym c.if-not-is_tape_length.ensures)))
 
-pub returns-then-not-header-ordered : goal.returns-then-not-header-ordered
-returns-then-not-header-ordered c = sym (cond-false _ _ _ (fails_header c.args.memory.now (sym c.if-not-header-ordered.ensures)))
+pub returns-then-not-header_ordered : goal.returns-then-not-header_ordered
+returns-then-not-header_ordered c = sym (cond-false _ _ _ (fails_header c.args.memory.now (sym c.if-not-header_ordered.ensures)))
 
-pub returns-then-not-entry-ordered : goal.returns-then-not-entry-ordered
-returns-then-not-entry-ordered c =
+pub returns-then-not-entry_ordered : goal.returns-then-not-entry_ordered
+returns-then-not-entry_ordered c =
     let memory : List ℕ = c.args.memory.now in
     let i = c.loop-i.i in
     let below : i < count_of memory = omega (arith, c.loop-i-test.true, c.word-count.ensures) in
-    let tested = ap₂ (λ a b. leb a b && leb b (a + 4096)) c.loop-i.invariant.0 c.end-of-next.ensures in
-    sym (cond-false _ _ _ (fails_entry memory i below (sym tested ∙ sym c.if-not-entry-ordered.ensures)))
+    let tested = ap₂ (λ a b. leb a b && leb b (a + 4096)) c.loop-i.invariant.0 c.end_of-next.ensures in
+    sym (cond-false _ _ _ (fails_entry memory i below (sym tested ∙ sym c.if-not-entry_ordered.ensures)))
 
 pub loop-i-preserved : goal.loop-i-preserved
 loop-i-preserved c =
     let memory : List ℕ = c.args.memory.now in
     let i = c.loop-i.i in
-    let tested = ap₂ (λ a b. leb a b && leb b (a + 4096)) c.loop-i.invariant.0 c.end-of-next.ensures in (
-      c.end-of-next.ensures ∙ sym (begin_next memory i),
-      every_more (entry_ordered memory) i (sym tested ∙ sym c.if-not-entry-ordered.ensures) c.loop-i.invariant.1,
+    let tested = ap₂ (λ a b. leb a b && leb b (a + 4096)) c.loop-i.invariant.0 c.end_of-next.ensures in (
+      c.end_of-next.ensures ∙ sym (begin_next memory i),
+      every_more (entry_ordered memory) i (sym tested ∙ sym c.if-not-entry_ordered.ensures) c.loop-i.invariant.1,
     )
 
 pub overflow-sub-len : goal.overflow-sub-len
-overflow-sub-len c = omega (arith, header_room c.args.memory.now (sym c.if-not-header-ordered.ensures), c.word-count.ensures)
+overflow-sub-len c = omega (arith, header_room c.args.memory.now (sym c.if-not-header_ordered.ensures), c.word-count.ensures)
 
 pub returns-then-end-len : goal.returns-then-end-len
 returns-then-end-len c =
@@ -43,5 +43,5 @@ returns c =
     let found : ℕ → ℕ → Extent = λ count end. record { count = count; end = end } in
     ap₂ (λ x y. Some (found x y)) c.word-count.ensures g.1
     ∙ sym (cond-true _ _ _
-    (passes memory (sym c.if-not-is-tape-length.ensures) (sym c.if-not-header-ordered.ensures) (ap (every (entry_ordered memory)) (sym g.0) ∙ c.loop-i.invariant.1)
+    (passes memory (sym c.if-not-is_tape_length.ensures) (sym c.if-not-header_ordered.ensures) (ap (every (entry_ordered memory)) (sym g.0) ∙ c.loop-i.invariant.1)
     (le-leb _ _ (omega (arith, g.1, c.if-end-len.false, c.word-count.ensures)))))

@@ -6,4 +6,4 @@ use Rattle.tape.proofs.judging.word.Goals as goal
 pub returns : goal.returns
 returns c =
     let e = ap number (four_at c.args.memory.now c.args.at c.requires) in
-    omega (arith, e, c.from-le-bytes.ensures)
+    omega (arith, e, c.from_le_bytes.ensures)

@@ -20,7 +20,7 @@ pub loop-number-preserved : goal.loop-number-preserved
 loop-number-preserved g c =
     let m : Meaning = g.R.Roll.meaning c.args.roll.now in
     let i = c.loop-number.number-counter in
-    let written = pushed c.deref.result.now c.loop-number.invariant c.in-ok-push-str.was c.push-str.ensures.bytes in
+    let written = pushed c.deref.result.now c.loop-number.invariant c.in-ok-push_str.was c.push_str.ensures.bytes in
     let line = c.deref.ensures ∙ c.in-ok-line.ensures.ok in
     let before : List ℕ = roll_line m ++ entry_lines 0 (take i m.entries) in
     written ∙ ap (λ r. before ++ r) line

@@ -17,32 +17,32 @@ returns g c =
     let ad : List ℕ = message c.args.ad.now in
     let t : List ℕ = message c.args.text.now in
     let out : List ℕ = c.args.out.now in
-    let p = passed (length ad) c.joined-len.result c.joined-len.ensures c.if-too-long.ensures in
-    let q = passed (length t) c.joined-len-len.result c.joined-len-len.ensures c.if-too-long-2.ensures in
+    let p = passed (length ad) c.joined_len.result c.joined_len.ensures c.if-too_long.ensures in
+    let q = passed (length t) c.joined_len-len.result c.joined_len-len.ensures c.if-too_long-2.ensures in
     let room = c.if-out-len.false in
     let check = message_check-none (length ad) (length t) (length out) p.0 q.0 (omega arith) in
     let k₁ = c.begin-duplex.ensures.same in
-    let k₂ = c.absorb-pieces.ensures.same ∙ k₁ in
-    let k₃ = c.seal-texts.ensures.same ∙ k₂ in
+    let k₂ = c.absorb_pieces.ensures.same ∙ k₁ in
+    let k₃ = c.seal_texts.ensures.same ∙ k₂ in
     let d₀ = c.begin-duplex.result in
-    let d₁ = c.absorb-pieces.new.duplex in
-    let d₂ = c.end-data.new.self in
-    let d₃ = c.seal-texts.new.duplex in
+    let d₁ = c.absorb_pieces.new.duplex in
+    let d₂ = c.end_data.new.self in
+    let d₃ = c.seal_texts.new.duplex in
     let absorbs : (n ad₀ : List ℕ) → TookData key n ad₀ (joined d₀.state) d₀.filled → TookData key n (ad₀ ++ ad) (joined d₁.state) d₁.filled
-    = rw k₁ at c.absorb-pieces.ensures.took in
+    = rw k₁ at c.absorb_pieces.ensures.took in
     let seals : (n ad : List ℕ) → TookText key n ad [] (joined d₂.state) d₂.filled → TookText key n ad t (joined d₃.state) d₃.filled
-    = rw k₂ at c.seal-texts.ensures.took in
-    let makes : (n ad : List ℕ) → TookText key n ad [] (joined d₂.state) d₂.filled → c.seal-texts.new.out ≡ sealed_piece key n ad [] t
-    = rw k₂ at c.seal-texts.ensures.out in
+    = rw k₂ at c.seal_texts.ensures.took in
+    let makes : (n ad : List ℕ) → TookText key n ad [] (joined d₂.state) d₂.filled → c.seal_texts.new.out ≡ sealed_piece key n ad [] t
+    = rw k₂ at c.seal_texts.ensures.out in
     let tags : (n ad t : List ℕ) → TookText key n ad t (joined d₃.state) d₃.filled → c.tag-tag.result ≡ sealed_tag key n ad t
     = rw k₃ at c.tag-tag.ensures.result in
-    let took = c.end-data.ensures.took key n ad (absorbs n [] c.begin-duplex.ensures.took) in
+    let took = c.end_data.ensures.took key n ad (absorbs n [] c.begin-duplex.ensures.took) in
     let text = makes n ad took in
-    let tag = c.copy-from-slice.ensures.after ∙ tags n ad t (seals n ad took) in
-    let whole : c.seal-texts.new.out ++ c.copy-from-slice.new.self ≡ seal key n ad t = ap₂ ◌++◌ text tag ∙ take-append-drop (length t) (seal key n ad t) in
+    let tag = c.copy_from_slice.ensures.after ∙ tags n ad t (seals n ad took) in
+    let whole : c.seal_texts.new.out ++ c.copy_from_slice.new.self ≡ seal key n ad t = ap₂ ◌++◌ text tag ∙ take-append-drop (length t) (seal key n ad t) in
     record {
       answer = ap (λ x. Ok (x + 8)) q.1 ∙ sym (ap (λ k. sealed_answer k (length t)) check);
-      out = written-tag c.seal-texts.new.out c.copy-from-slice.new.self out c.joined-len-len.result (ap length text ∙ length-sealed_text key n ad t ∙ sym q.1) (ap length tag ∙ length-sealed_tag key n ad t)
+      out = written-tag c.seal_texts.new.out c.copy_from_slice.new.self out c.joined_len-len.result (ap length text ∙ length-sealed_text key n ad t ∙ sym q.1) (ap length tag ∙ length-sealed_tag key n ad t)
           ∙ ap (λ x. written x out) whole ∙ sym (ap (λ k. sealed_out k (seal key n ad t) out) check);
       same = c.tag-tag.ensures.same ∙ k₃;
       refused = λ e. absurd (true≢false e);

@@ -6,7 +6,7 @@ use Rattle.tinyjambu.proofs.state.framed_long_run.Goals as goal
 
 pub returns : goal.returns
 returns g c = record {
-  state = joined_run (g.E.Engine.key c.args.engine.now) c.put.result c.long-run.result (long_rounds (g.E.Engine.key c.args.engine.now)) (frame c.args.bits (joined c.args.state))
-      c.long-run.ensures.result c.put.ensures.state (rw c.put.ensures.state at c.put.ensures.below);
-  same = c.long-run.ensures.same;
+  state = joined_run (g.E.Engine.key c.args.engine.now) c.put.result c.long_run.result (long_rounds (g.E.Engine.key c.args.engine.now)) (frame c.args.bits (joined c.args.state))
+      c.long_run.ensures.result c.put.ensures.state (rw c.put.ensures.state at c.put.ensures.below);
+  same = c.long_run.ensures.same;
 }

@@ -6,7 +6,7 @@ use Rattle.tinyjambu.proofs.state.framed_short_run.Goals as goal
 
 pub returns : goal.returns
 returns g c = record {
-  state = joined_run (g.E.Engine.key c.args.engine.now) c.put.result c.short-run.result short_rounds (frame c.args.bits (joined c.args.state))
-      c.short-run.ensures.result c.put.ensures.state (rw c.put.ensures.state at c.put.ensures.below);
-  same = c.short-run.ensures.same;
+  state = joined_run (g.E.Engine.key c.args.engine.now) c.put.result c.short_run.result short_rounds (frame c.args.bits (joined c.args.state))
+      c.short_run.ensures.result c.put.ensures.state (rw c.put.ensures.state at c.put.ensures.below);
+  same = c.short_run.ensures.same;
 }

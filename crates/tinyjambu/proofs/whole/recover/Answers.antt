@@ -18,7 +18,7 @@ returns g c =
     let k₃ = c.crypt.ensures.same ∙ k₂ in
     let d₀ = c.begin-duplex.result in
     let d₁ = c.absorb.new.self in
-    let d₂ = c.end-data.new.self in
+    let d₂ = c.end_data.new.self in
     let d₃ = c.crypt.new.self in
     let absorbs : (n ad₀ : List ℕ) → TookData key n ad₀ (joined d₀.state) d₀.filled → TookData key n (ad₀ ++ ad) (joined d₁.state) d₁.filled
     = rw k₁ at c.absorb.ensures.took in
@@ -28,14 +28,14 @@ returns g c =
     = rw k₂ at c.crypt.ensures.out in
     let tags : (n ad t : List ℕ) → TookText key n ad t (joined d₃.state) d₃.filled → c.tag.result ≡ sealed_tag key n ad t
     = rw k₃ at c.tag.ensures.result in
-    let took = c.end-data.ensures.took key n ad (absorbs n [] c.begin-duplex.ensures.took) in
+    let took = c.end_data.ensures.took key n ad (absorbs n [] c.begin-duplex.ensures.took) in
     let len : ℕ = length c.args.out.now in
     let m : length t ≡ len = c.crypt.auto.out in
     let e : len + 8 ≡ length s = c.requires in
     let body : take (length t) s ≡ sealed_piece key n ad [] t = ap (λ k. take k s) (omega arith) ∙ makes n ad [] took in
     let end : take (len + 8 - len) (drop len s) ≡ drop (length t) s = take_all (len + 8 - len) (drop len s) (rw length-drop (omega arith)) ∙ ap (λ k. drop k s) (sym m) in
-    let is : c.same-tag.result ≡ same (sealed_tag key n ad t) (drop (length t) s)
-    = c.same-tag.ensures ∙ ap₂ same (tags n ad t (takes n ad [] took)) end in
+    let is : c.same_tag.result ≡ same (sealed_tag key n ad t) (drop (length t) s)
+    = c.same_tag.ensures ∙ ap₂ same (tags n ad t (takes n ad [] took)) end in
     record {
       text = recovered key n ad t s (ap (λ k. k + 8) m ∙ e) body ∙ ap (λ b. cond b (Some t) None) (sym is);
       same = c.tag.ensures.same ∙ k₃;

@@ -14,14 +14,14 @@ returns g c =
     let ad : List ℕ = c.args.ad.now in
     let t : List ℕ = c.args.text.now in
     let out : List ℕ = c.args.out.now in
-    let taken = nonce_taken n c.in-Some.words (all_bytes n c.type-inv.nonce) c.in-Some.ensures in
+    let taken = nonce_taken n c.in-Some.words (all_bytes n c.type_inv.nonce) c.in-Some.ensures in
     let check : message_check (length (ad ++ [])) (length (t ++ [])) (length out) ≡ seal_check (length n) (length ad) (length t) (length out)
     = ap₂ (λ x y. message_check (length x) (length y) (length out)) (append-nil ad) (append-nil t) ∙ sym (cond-true _ _ _ taken.0) in
     let words : List ℕ = word_bytes c.in-Some.words in
     let message : seal key words (ad ++ []) (t ++ []) ≡ seal key n ad t = ap₂ (λ x y. seal key words x y) (append-nil ad) (append-nil t) ∙ ap (λ x. seal key x ad t) taken.1 in
     record {
-      answer = c.seal-pieces.ensures.answer ∙ ap₂ (λ x y. sealed_answer x (length y)) check (append-nil t);
-      out = c.seal-pieces.ensures.out ∙ ap₂ (λ x y. sealed_out x y out) check message;
-      same = c.seal-pieces.ensures.same;
-      refused = c.seal-pieces.ensures.refused;
+      answer = c.seal_pieces.ensures.answer ∙ ap₂ (λ x y. sealed_answer x (length y)) check (append-nil t);
+      out = c.seal_pieces.ensures.out ∙ ap₂ (λ x y. sealed_out x y out) check message;
+      same = c.seal_pieces.ensures.same;
+      refused = c.seal_pieces.ensures.refused;
     }

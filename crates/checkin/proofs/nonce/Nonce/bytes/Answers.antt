@@ -13,6 +13,6 @@ twelve n f e x y z p q r = rw (p, q, r)
 pub returns : goal.returns
 returns c =
     twelve _ _ _ _ _ _
-    (four c.args.self.name _ c.to-le-bytes-n.ensures)
-    (four c.args.self.floor _ c.to-le-bytes-f.ensures)
-    (four c.args.self.entry _ c.to-le-bytes-e.ensures)
+    (four c.args.self.name _ c.to_le_bytes-n.ensures)
+    (four c.args.self.floor _ c.to_le_bytes-f.ensures)
+    (four c.args.self.entry _ c.to_le_bytes-e.ensures)

@@ -11,5 +11,5 @@ pub loop-i-preserved : goal.loop-i-preserved
 loop-i-preserved c =
     let k = c.args.self.now.key in
     let w = c.word.ensures ∙ ap (λ u. get_or k.words (c.loop-i.i / 32 % u) 0) c.used.ensures in
-    bit_turn k.words k.used c.loop-i.i c.args.state c.loop-i.s c.bit-round-s.result
-    k.stored (omega arith) c.loop-i.invariant (rw w at c.bit-round-s.ensures)
+    bit_turn k.words k.used c.loop-i.i c.args.state c.loop-i.s c.bit_round-s.result
+    k.stored (omega arith) c.loop-i.invariant (rw w at c.bit_round-s.ensures)

@@ -9,20 +9,20 @@ use Rattle.engine.proofs.key.Key.fill.Goals as goal
 
 pub loop-i-preserved : goal.loop-i-preserved
 loop-i-preserved c =
-    let size = key_size_true (length c.args.bytes.now) (sym c.if-not-is-key-size.ensures) in
+    let size = key_size_true (length c.args.bytes.now) (sym c.if-not-is_key_size.ensures) in
     let ws = c.loop-i.words in
     let bs = c.args.bytes.now in
     let i = c.loop-i.i in
-    let w = c.from-le-bytes.result in
-    let is : w ≡ number (take 4 (drop (4 * i) bs)) = omega (arith, ap number (four_at bs (4 * i) (omega arith)), c.from-le-bytes.ensures) in (
+    let w = c.from_le_bytes.result in
+    let is : w ≡ number (take 4 (drop (4 * i) bs)) = omega (arith, ap number (four_at bs (4 * i) (omega arith)), c.from_le_bytes.ensures) in (
       length-set ws i w ∙ c.loop-i.invariant.0,
       rest_more ws i w c.loop-i.invariant.1,
-      rw is (filled_more ws bs i (all_bytes bs c.type-inv.bytes) (omega arith) (omega arith) c.loop-i.invariant.2),
+      rw is (filled_more ws bs i (all_bytes bs c.type_inv.bytes) (omega arith) (omega arith) c.loop-i.invariant.2),
     )
 
 pub returns : goal.returns
 returns c =
-    let is = sym c.if-not-is-key-size.ensures in
+    let is = sym c.if-not-is_key_size.ensures in
     let size = key_size_true (length c.args.bytes.now) is in
     let n : length c.args.bytes.now / 4 ≡ c.loop-i.i = omega arith in
     record {

@@ -7,7 +7,7 @@ use Rattle.engine.proofs.word_engine.WordEngine.new.Goals as goal
 pub loop-i-preserved : goal.loop-i-preserved
 loop-i-preserved c = (
   length-set c.loop-i.words c.loop-i.i (flip c.word.result) ∙ c.loop-i.invariant.0,
-  flipped_more c.loop-i.words c.args.key.words c.loop-i.i c.word.result (omega arith) (omega arith) c.word.ensures c.word.type-inv c.loop-i.invariant.1,
+  flipped_more c.loop-i.words c.args.key.words c.loop-i.i c.word.result (omega arith) (omega arith) c.word.ensures c.word.type_inv c.loop-i.invariant.1,
 )
 
 pub invariant-of-result : goal.invariant-of-result

@@ -13,20 +13,20 @@ loop-n-init c = record {
   many = flipped-stored c.args.self.now.words c.args.self.now.used c.args.self.now.stored;
   place = sym (zero-mod c.args.self.now.used);
   below = omega arith;
-  small = subst AllWords (sym (four c.as-words.result (omega arith) ∙ c.as-words.ensures)) (words_small 4 c.args.state);
-  state = sym (ap joined (four c.as-words.result (omega arith) ∙ c.as-words.ensures) ∙ joined_words 4 c.args.state c.ranges.state.fits);
+  small = subst AllWords (sym (four c.as_words.result (omega arith) ∙ c.as_words.ensures)) (words_small 4 c.args.state);
+  state = sym (ap joined (four c.as_words.result (omega arith) ∙ c.as_words.ensures) ∙ joined_words 4 c.args.state c.ranges.state.fits);
 }
 
 pub loop-n-preserved : goal.loop-n-preserved
 loop-n-preserved c =
-    let a = turn_flipped c.args.self.now.words c.loop-n.invariant c.mix-a.ensures c.mix-a.type-inv c.next-at.ensures.is c.next-at.ensures.below in
-    let b = turn_flipped c.args.self.now.words a c.mix-b.ensures c.mix-b.type-inv c.next-at-in-loop-n.ensures.is c.next-at-in-loop-n.ensures.below in
-    let d = turn_flipped c.args.self.now.words b c.mix-c.ensures c.mix-c.type-inv c.next-at-in-loop-n-2.ensures.is c.next-at-in-loop-n-2.ensures.below in
-    let e = turn_flipped c.args.self.now.words d c.mix-d.ensures c.mix-d.type-inv c.next-at-in-loop-n-3.ensures.is c.next-at-in-loop-n-3.ensures.below in
+    let a = turn_flipped c.args.self.now.words c.loop-n.invariant c.mix-a.ensures c.mix-a.type_inv c.next-at.ensures.is c.next-at.ensures.below in
+    let b = turn_flipped c.args.self.now.words a c.mix-b.ensures c.mix-b.type_inv c.next-at-in-loop-n.ensures.is c.next-at-in-loop-n.ensures.below in
+    let d = turn_flipped c.args.self.now.words b c.mix-c.ensures c.mix-c.type_inv c.next-at-in-loop-n-2.ensures.is c.next-at-in-loop-n-2.ensures.below in
+    let e = turn_flipped c.args.self.now.words d c.mix-d.ensures c.mix-d.type_inv c.next-at-in-loop-n-3.ensures.is c.next-at-in-loop-n-3.ensures.below in
     let q : c.loop-n.n * 4 + 1 + 1 + 1 + 1 ≡ (c.loop-n.n + 1) * 4 = omega arith in
     rw q at e
 
 pub returns : goal.returns
 returns c =
     let n : 128 * c.args.steps ≡ c.loop-n.n * 4 * 32 = omega arith in
-    c.as-number.ensures ∙ sym (rw n c.loop-n.invariant.state)
+    c.as_number.ensures ∙ sym (rw n c.loop-n.invariant.state)

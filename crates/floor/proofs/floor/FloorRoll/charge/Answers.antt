@@ -5,4 +5,4 @@ use Rattle.floor.proofs.floor.FloorRoll.charge.Goals as goal
 pub returns : goal.returns
 returns g c =
     let below = c.args.self.now.below in
-    c.charge.ensures ∙ ap (g.R.Roll.meaning below).charge c.saturating-add.ensures ∙ charge-same _ _ _ (g.R.Roll.lawful_top below)
+    c.charge.ensures ∙ ap (g.R.Roll.meaning below).charge c.saturating_add.ensures ∙ charge-same _ _ _ (g.R.Roll.lawful_top below)

@@ -5,7 +5,7 @@ use Rattle.floor.proofs.Floors.{length_none, length_less}
 use Rattle.floor.proofs.floor.FloorRoll.length.Goals as goal
 
 pub returns-in-Ok : goal.returns-in-Ok
-returns-in-Ok g c = ap Ok c.saturating-sub.ensures ∙ sym (length_less _ _ _ _ (sym c.length.ensures ∙ c.in-Ok.is))
+returns-in-Ok g c = ap Ok c.saturating_sub.ensures ∙ sym (length_less _ _ _ _ (sym c.length.ensures ∙ c.in-Ok.is))
 
 pub returns-in-Err : goal.returns-in-Err
 returns-in-Err g c =

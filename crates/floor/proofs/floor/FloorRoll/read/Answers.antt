@@ -58,8 +58,8 @@ returns-in-err-n g c =
       bytes = c.read.ensures.bytes;
     }
 
-pub returns-then-is-err : goal.returns-then-is-err
-returns-then-is-err g c =
+pub returns-then-is_err : goal.returns-then-is_err
+returns-then-is_err g c =
     let s = c.args.self.now in
     let l : Layer = layer (g.E.Engine.key s.engine) (kind_byte s.kind) in
     let m : Meaning = g.R.Roll.meaning s.below in
@@ -70,12 +70,12 @@ returns-then-is-err g c =
     (g.R.Roll.lawful_top s.below) (sym c.length.ensures ∙ c.in-ok-len.was) c.if-guard-len.false
     c.read.ensures.out (sym c.read.ensures.answer ∙ c.in-ok-n.was)
     c.nonce-nonce.ensures (c.name.ensures ∙ ap (λ x. (raised l x).name) c.read.ensures.same) c.floor-floor.ensures c.byte.ensures
-    (ap is_ok (sym c.open.ensures.answer) ∙ c.if-is-err.ensures.negation) in
+    (ap is_ok (sym c.open.ensures.answer) ∙ c.if-is_err.ensures.negation) in
     let front = c.open.auto.out ∙ length-take-le (len - 0) out (omega (arith, c.if-guard-len.false)) in
     let part : length c.open.new.out ≡ len = front ∙ omega arith in
     record {
-      answer = ap Err c.fault-then-is-err.ensures ∙ sym done.0;
-      out = c.drop-guard-then-is-err.ensures ∙ ap (λ k. replicate k 0) (length_part c.open.new.out out len part c.if-guard-len.false) ∙ sym done.1;
+      answer = ap Err c.fault-then-is_err.ensures ∙ sym done.0;
+      out = c.drop-guard-then-is_err.ensures ∙ ap (λ k. replicate k 0) (length_part c.open.new.out out len part c.if-guard-len.false) ∙ sym done.1;
       same = ap₂ (λ k x. raised (layer k l.kind) x) c.open.ensures.same c.read.ensures.same;
       stored = c.read.ensures.stored;
       floors = ap₂ (λ k ls. layer k l.kind ∷ ls) c.open.ensures.same c.read.ensures.floors;
@@ -94,7 +94,7 @@ returns g c =
     (g.R.Roll.lawful_top s.below) (sym c.length.ensures ∙ c.in-ok-len.was) c.if-guard-len.false
     c.read.ensures.out (sym c.read.ensures.answer ∙ c.in-ok-n.was)
     c.nonce-nonce.ensures (c.name.ensures ∙ ap (λ x. (raised l x).name) c.read.ensures.same) c.floor-floor.ensures c.byte.ensures
-    (ap is_ok (sym c.open.ensures.answer) ∙ c.if-is-err.ensures.negation) in
+    (ap is_ok (sym c.open.ensures.answer) ∙ c.if-is_err.ensures.negation) in
     record {
       answer = sym done.0;
       out = c.drop-guard-2.ensures ∙ ap (λ x. x ++ drop (len - 0) out) c.open.ensures.out ∙ sym done.1;

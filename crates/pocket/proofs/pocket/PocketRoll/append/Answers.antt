@@ -45,7 +45,7 @@ invariant-of-self c =
     let s = c.start-at.ensures in
     let n = c.paged.ensures in
     let row = bounds-self-self c in
-    let w = copied p.bytes t c.copy-from-slice.new.self c.start-at.result _ refl c.copy-from-slice.ensures.after ∙ ap (λ x. written x t p.bytes) s in (
+    let w = copied p.bytes t c.copy_from_slice.new.self c.start-at.result _ refl c.copy_from_slice.ensures.after ∙ ap (λ x. written x t p.bytes) s in (
       omega (arith, row),
       (
         length-set p.lengths p.count (length t) ∙ p.rows,
@@ -69,7 +69,7 @@ returns c =
     let few : length ns ≤ 64 = omega arith in
     let row = row_free ns (length t) paid in
     let e = taken m t (pocket_takes p.name p.bytes ns t p.whole c.if-len.false paid few) ∙ ap Ok (pocket-count p.name p.bytes p.lengths p.count (omega arith)) in
-    let w = copied p.bytes t c.copy-from-slice.new.self c.start-at.result _ refl c.copy-from-slice.ensures.after ∙ ap (λ x. written x t p.bytes) s in
+    let w = copied p.bytes t c.copy_from_slice.new.self c.start-at.result _ refl c.copy_from_slice.ensures.after ∙ ap (λ x. written x t p.bytes) s in
     let l = take_more_set p.lengths p.count (length t) (omega arith) in
     let grew = ap₂ (pocket p.name) w l ∙ sym (pocket_after p.name p.bytes ns t p.whole c.if-len.false paid few) in
     record { answer = sym e; after = grew; stored = grew; floors = refl; bytes = w ∙ ap (λ x. written x t p.bytes) (omega (arith, p.fits)); refused = λ z. absurd (both_ways true z refl) }

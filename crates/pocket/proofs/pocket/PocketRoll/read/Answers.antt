@@ -29,8 +29,8 @@ overflow-add-at c =
     let p = c.args.self.now in
     record { fits = omega (arith, c.start-at.ensures, paged_within p.lengths c.args.entry p.count c.if-entry-self.false (omega arith)) }
 
-pub slice-bounds-copy-from-slice-end-2 : goal.slice-bounds-copy-from-slice-end-2
-slice-bounds-copy-from-slice-end-2 c =
+pub slice-bounds-copy_from_slice-end-2 : goal.slice-bounds-copy_from_slice-end-2
+slice-bounds-copy_from_slice-end-2 c =
     let p = c.args.self.now in
     omega (arith, c.start-at.ensures, paged_within p.lengths c.args.entry p.count c.if-entry-self.false (omega arith))
 
@@ -44,7 +44,7 @@ returns c =
     let at = c.start-at.ensures in
     let within = stored_within p.bytes p.lengths i p.count c.if-entry-self.false (omega arith) (omega arith) in
     let copy =
-    read-part p.bytes c.args.out.now c.copy-from-slice.new.self c.start-at.result _ (get_or p.lengths i 0) refl c.copy-from-slice.ensures.after (omega arith)
+    read-part p.bytes c.args.out.now c.copy_from_slice.new.self c.start-at.result _ (get_or p.lengths i 0) refl c.copy_from_slice.ensures.after (omega arith)
     ∙ ap (λ x. part x (get_or p.lengths i 0) p.bytes ++ drop (length (part x (get_or p.lengths i 0) p.bytes)) c.args.out.now) at in
     let done = read_given m i c.args.out.now _ e (omega (arith, c.if-guard-len.false)) in
     record { answer = sym (done.0 ∙ ap Ok n); out = c.drop-guard-2.ensures ∙ copy ∙ sym done.1; same = refl; stored = refl; floors = refl; bytes = refl }

@@ -54,8 +54,8 @@ returns-then-space-len c =
     let d = tape_refused memory t NoSpace _ _ c.refusal-then-space-len.ensures c.count-entry.ensures a in
     record { answer = d.0; after = d.1; stored = d.1; floors = refl; bytes = refl; refused = λ _. refl }
 
-pub write-entry-requires : goal.write-entry-requires
-write-entry-requires c =
+pub write_entry-requires : goal.write_entry-requires
+write_entry-requires c =
     let s = c.args.self.now in
     let memory : List ℕ = vec_items s.memory in
     let o = opened_in_order memory _ s.known _ c.in-Some.is in
@@ -77,9 +77,9 @@ invariant-of-self c =
     let x = c.in-Some.extent in
     let o = opened_in_order memory _ s.known x c.in-Some.is in
     let cheap : length t + 4 ≤ (tape memory).space = omega (arith, c.space.ensures, c.if-space-len.false) in
-    let long : length c.write-entry.new.memory ≡ s.memory.len = omega (arith, c.write-entry.auto.memory, c.deref-mut.ensures.len) in
-    let wrote = with_items_is s.memory _ long ∙ c.write-entry.ensures.after ∙ ap (λ m. entry_put x.count x.end m t) c.deref-mut.ensures.value in
-    (append_judged memory t x o.0 o.1 c.if-len.false c.if-extent-ge-MOST.false cheap _ wrote _ c.write-entry.ensures.extent, tt)
+    let long : length c.write_entry.new.memory ≡ s.memory.len = omega (arith, c.write_entry.auto.memory, c.deref-mut.ensures.len) in
+    let wrote = with_items_is s.memory _ long ∙ c.write_entry.ensures.after ∙ ap (λ m. entry_put x.count x.end m t) c.deref-mut.ensures.value in
+    (append_judged memory t x o.0 o.1 c.if-len.false c.if-extent-ge-MOST.false cheap _ wrote _ c.write_entry.ensures.extent, tt)
 
 pub returns : goal.returns
 returns c =
@@ -89,8 +89,8 @@ returns c =
     let x = c.in-Some.extent in
     let o = opened_in_order memory _ s.known x c.in-Some.is in
     let cheap : length t + 4 ≤ (tape memory).space = omega (arith, c.space.ensures, c.if-space-len.false) in
-    let long : length c.write-entry.new.memory ≡ s.memory.len = omega (arith, c.write-entry.auto.memory, c.deref-mut.ensures.len) in
-    let wrote = with_items_is s.memory _ long ∙ c.write-entry.ensures.after ∙ ap (λ m. entry_put x.count x.end m t) c.deref-mut.ensures.value in
+    let long : length c.write_entry.new.memory ≡ s.memory.len = omega (arith, c.write_entry.auto.memory, c.deref-mut.ensures.len) in
+    let wrote = with_items_is s.memory _ long ∙ c.write_entry.ensures.after ∙ ap (λ m. entry_put x.count x.end m t) c.deref-mut.ensures.value in
     let e = append_taken memory t x o.0 o.1 c.if-len.false c.if-extent-ge-MOST.false cheap _ wrote in
     let grew = append_means memory t x o.0 o.1 c.if-len.false c.if-extent-ge-MOST.false cheap _ wrote in
     let put = append_put memory t x o.0 o.1 c.if-len.false c.if-extent-ge-MOST.false cheap _ wrote in

@@ -28,18 +28,18 @@ returns-then-guard-len c =
     let done = read_long (tape memory) c.args.entry c.args.out.now _ (span_entry memory c.args.entry _ p) (omega (arith, c.if-guard-len.true, span_length memory c.args.entry _ p)) in
     record { answer = ap Err (c.refusal.ensures ∙ ap (λ k. fault OutTooShort k c.args.entry) (sym (tape-floor memory))) ∙ sym done.0; out = c.drop-guard-then-guard-len.ensures ∙ sym done.1; same = refl; stored = refl; floors = refl; bytes = refl }
 
-pub slice-bounds-copy-from-slice-count-2 : goal.slice-bounds-copy-from-slice-count-2
-slice-bounds-copy-from-slice-count-2 c =
+pub slice-bounds-copy_from_slice-count-2 : goal.slice-bounds-copy_from_slice-count-2
+slice-bounds-copy_from_slice-count-2 c =
     let memory : List ℕ = vec_items c.args.self.now.memory in
     (span_within memory c.args.entry _ (sym c.place.ensures ∙ c.in-ok-begin.was)).0
 
-pub slice-bounds-copy-from-slice-start-2 : goal.slice-bounds-copy-from-slice-start-2
-slice-bounds-copy-from-slice-start-2 c =
+pub slice-bounds-copy_from_slice-start-2 : goal.slice-bounds-copy_from_slice-start-2
+slice-bounds-copy_from_slice-start-2 c =
     let memory : List ℕ = vec_items c.args.self.now.memory in
     (span_within memory c.args.entry _ (sym c.place.ensures ∙ c.in-ok-begin.was)).0
 
-pub slice-bounds-copy-from-slice-end-2 : goal.slice-bounds-copy-from-slice-end-2
-slice-bounds-copy-from-slice-end-2 c =
+pub slice-bounds-copy_from_slice-end-2 : goal.slice-bounds-copy_from_slice-end-2
+slice-bounds-copy_from_slice-end-2 c =
     let memory : List ℕ = vec_items c.args.self.now.memory in
     let within = span_within memory c.args.entry _ (sym c.place.ensures ∙ c.in-ok-begin.was) in
     omega (arith, within.1, ap length c.deref.ensures.value)
@@ -52,10 +52,10 @@ returns c =
     let within = span_within memory c.args.entry at p in
     let n = span_length memory c.args.entry at p in
     let done = read_given (tape memory) c.args.entry c.args.out.now _ (span_entry memory c.args.entry at p) (omega (arith, c.if-guard-len.false, n)) in
-    let copy = c.copy-from-slice.ensures.after ∙ ap (λ m. take (at.end - at.begin) (drop at.begin m)) c.deref.ensures.value in
+    let copy = c.copy_from_slice.ensures.after ∙ ap (λ m. take (at.end - at.begin) (drop at.begin m)) c.deref.ensures.value in
     record {
       answer = ap Ok (sym n) ∙ sym done.0;
-      out = c.drop-guard-2.ensures ∙ read-part memory c.args.out.now c.copy-from-slice.new.self at.begin at.end (at.end - at.begin) (omega (arith, within)) copy (omega (arith, within)) ∙ sym done.1;
+      out = c.drop-guard-2.ensures ∙ read-part memory c.args.out.now c.copy_from_slice.new.self at.begin at.end (at.end - at.begin) (omega (arith, within)) copy (omega (arith, within)) ∙ sym done.1;
       same = refl;
       stored = refl;
       floors = refl;

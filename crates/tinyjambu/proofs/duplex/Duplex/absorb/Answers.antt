@@ -16,9 +16,9 @@ loop-at-init g c =
 pub loop-at-preserved-then-piece-at-ge4 : goal.loop-at-preserved-then-piece-at-ge4
 loop-at-preserved-then-piece-at-ge4 g c =
     let d = c.loop-at.self in
-    let e = c.absorb-word.ensures in
+    let e = c.absorb_word.ensures in
     let l : c.loop-at.at + 4 ≤ length c.args.piece.now = omega arith in (
-      fed_word_more c.loop-at.invariant.0 _ _ (all_bytes c.args.piece.now c.type-inv.piece) l c.if-self-eq0.true
+      fed_word_more c.loop-at.invariant.0 _ _ (all_bytes c.args.piece.now c.type_inv.piece) l c.if-self-eq0.true
           (e.state ∙ ap₂ (λ k w. bit_xor (data_run k (joined d.state)) (w * 2 ^ 96)) c.loop-at.invariant.1 c.load.ensures) e.filled,
       e.same ∙ c.loop-at.invariant.1,
     )
@@ -26,7 +26,7 @@ loop-at-preserved-then-piece-at-ge4 g c =
 pub loop-at-preserved : goal.loop-at-preserved
 loop-at-preserved g c =
     let d = c.loop-at.self in
-    let e = c.absorb-byte.ensures in (
+    let e = c.absorb_byte.ensures in (
       fed_byte_more c.loop-at.invariant.0 _ _ c.loop-at-test.true
           (e.state ∙ ap (λ k. fed_byte (data_run k) d.filled (joined d.state) (get_or c.args.piece.now c.loop-at.at 0)) c.loop-at.invariant.1) e.filled,
       e.same ∙ c.loop-at.invariant.1,
@@ -36,6 +36,6 @@ pub returns : goal.returns
 returns g c =
     let all = fed_all c.loop-at.invariant.0 c.loop-at-test.false in
     record {
-      took = λ nonce ad h. took_more h c.args.piece.now _ _ (all_bytes c.args.piece.now c.type-inv.piece) all.0 all.1;
+      took = λ nonce ad h. took_more h c.args.piece.now _ _ (all_bytes c.args.piece.now c.type_inv.piece) all.0 all.1;
       same = c.loop-at.invariant.1;
     }

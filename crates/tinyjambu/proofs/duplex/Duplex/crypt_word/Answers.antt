@@ -7,11 +7,11 @@ use Rattle.tinyjambu.proofs.duplex.Duplex.crypt_word.Goals as goal
 
 pub returns : goal.returns
 returns g c =
-    let e = c.framed-long-run-state.ensures in
-    let k = c.stream-word.result in
+    let e = c.framed_long_run-state.ensures in
+    let k = c.stream_word.result in
     let t = text_of c.args.direction c.args.word (bit_xor c.args.word k) in
     record {
-      result = either_way c.args.direction c.args.word k ∙ ap (bit_xor t) (c.stream-word.ensures ∙ ap stream e.state);
+      result = either_way c.args.direction c.args.word k ∙ ap (bit_xor t) (c.stream_word.ensures ∙ ap stream e.state);
       state = c.put-self.ensures.state ∙ ap₂ (λ s w. bit_xor s (w * 2 ^ 96)) e.state c.text.ensures;
       filled = c.requires;
       same = e.same;

@@ -6,4 +6,4 @@ use Rattle.tinyjambu.proofs.duplex.Duplex.stream_byte.Goals as goal
 pub returns : goal.returns
 returns c =
     let d = c.args.self.now in
-    ap (λ w. w / 2 ^ (8 * d.filled) % 256) c.stream-word.ensures ∙ stream_at (joined d.state) d.filled d.few
+    ap (λ w. w / 2 ^ (8 * d.filled) % 256) c.stream_word.ensures ∙ stream_at (joined d.state) d.filled d.few

@@ -7,6 +7,6 @@ pub returns : goal.returns
 returns g c =
     let key = g.E.Engine.key c.args.engine.now in
     record {
-      result = λ nonce ad t h. c.tag-bytes.ensures.result ∙ ap (tag key) c.close.ensures.state ∙ tag_part key nonce ad t _ _ h;
-      same = c.tag-bytes.ensures.same;
+      result = λ nonce ad t h. c.tag_bytes.ensures.result ∙ ap (tag key) c.close.ensures.state ∙ tag_part key nonce ad t _ _ h;
+      same = c.tag_bytes.ensures.same;
     }

@@ -7,7 +7,7 @@ returns g c =
     let p = c.args.piece.now in
     let d = c.absorb.new.self in
     record {
-      answer = sym (cond-false _ _ _ (sym c.if-too-long.ensures));
+      answer = sym (cond-false _ _ _ (sym c.if-too_long.ensures));
       extends = λ _ nonce ad h. record {
         took = rw c.absorb.ensures.same (c.absorb.ensures.took nonce ad h.took);
         counted = ap (λ n. n + length p) h.counted ∙ sym (length-append ad p);

@@ -8,7 +8,7 @@ returns g c =
     let p = c.args.piece.now in
     let out = c.args.out.now in
     record {
-      answer = sym (cond-false _ _ _ (sym c.if-too-long.ensures) ∙ cond-false _ _ _ (le-ltb (length out) (length p) c.if-out-len.false));
+      answer = sym (cond-false _ _ _ (sym c.if-too_long.ensures) ∙ cond-false _ _ _ (le-ltb (length out) (length p) c.if-out-len.false));
       extends = λ _ nonce ad t h. record {
         took = rw c.crypt.ensures.same (c.crypt.ensures.took nonce ad t h.took);
         counted = ap (λ n. n + length p) h.counted ∙ sym (length-append t p);
