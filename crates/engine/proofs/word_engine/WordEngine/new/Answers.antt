@@ -10,9 +10,6 @@ loop-i-preserved c = (
   flipped_more c.loop-i.words c.args.key.words c.loop-i.i c.word.result (omega arith) (omega arith) c.word.ensures c.word.type_inv c.loop-i.invariant.1,
 )
 
-pub invariant-of-result : goal.invariant-of-result
-invariant-of-result c = (omega arith, (omega arith, (omega arith, (omega arith, tt))))
-
 pub returns : goal.returns
 returns c =
     let n : c.used-used.result ≡ c.loop-i.i = omega arith in
