@@ -23,7 +23,7 @@ impl Label {
         out: &mut [u8],
     ) -> Result<usize, Fault>
         ensures answer { result ≡ seal_answer (nonce_of self) (data_of self) text.now out.old }
-        ensures out { out.new ≡ seal_out (key engine.old) (nonce_of self) (data_of self) text.now out.old }
+        ensures out { out.new ≡ seal_out (E.key engine.old) (nonce_of self) (data_of self) text.now out.old }
     {
         let nonce = self.nonce.bytes();
         let ad = [self.kind.byte()];
@@ -37,8 +37,8 @@ impl Label {
         sealed: &[u8],
         out: &mut [u8],
     ) -> Result<usize, Fault>
-        ensures answer { result ≡ open_answer (key engine.old) (nonce_of self) (data_of self) sealed.now out.old }
-        ensures out { out.new ≡ open_out (key engine.old) (nonce_of self) (data_of self) sealed.now out.old }
+        ensures answer { result ≡ open_answer (E.key engine.old) (nonce_of self) (data_of self) sealed.now out.old }
+        ensures out { out.new ≡ open_out (E.key engine.old) (nonce_of self) (data_of self) sealed.now out.old }
     {
         let nonce = self.nonce.bytes();
         let ad = [self.kind.byte()];

@@ -21,7 +21,7 @@ pub(crate) fn in_pieces<E: Engine + Drop>(
     out: &mut [u8],
 ) -> Result<usize, Fault>
     ensures len { IfOk result (λ n. n ≡ length text.entry.first.now + length text.entry.second.now + 8) }
-    ensures out { is_ok result ≡ true → out.new ≡ written (seal (key engine) (word_bytes nonce) (ad.entry.first.now ++ ad.entry.second.now) (text.entry.first.now ++ text.entry.second.now)) out.old }
+    ensures out { is_ok result ≡ true → out.new ≡ written (seal (E.key engine) (word_bytes nonce) (ad.entry.first.now ++ ad.entry.second.now) (text.entry.first.now ++ text.entry.second.now)) out.old }
 {
     let mut session = Session::new(engine, nonce);
     session.absorb(ad.first)?;

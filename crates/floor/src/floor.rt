@@ -37,21 +37,21 @@ fn fault(refusal: Refusal, floor: u32, entry: u32) -> Fault
 }
 
 impl<R: Roll, E: Engine> Roll for Floor<R, E> {
-    ghost meaning = { λ s. raised (layer (E.Engine.key s.engine) (kind_byte s.kind)) (R.Roll.meaning s.below) };
+    ghost meaning = { λ s. raised (layer (E.key s.engine) (kind_byte s.kind)) (R.Roll.meaning s.below) };
 
     ghost bottom = { λ s. R.Roll.bottom s.below };
 
-    ghost layers = { λ s. layer (E.Engine.key s.engine) (kind_byte s.kind) ∷ R.Roll.layers s.below };
+    ghost layers = { λ s. layer (E.key s.engine) (kind_byte s.kind) ∷ R.Roll.layers s.below };
 
     ghost image = { λ s. R.Roll.image s.below };
 
     ghost put = { R.Roll.put };
 
-    ghost stands = { λ s. ap (raised (layer (E.Engine.key s.engine) (kind_byte s.kind))) (R.Roll.stands s.below) };
+    ghost stands = { λ s. ap (raised (layer (E.key s.engine) (kind_byte s.kind))) (R.Roll.stands s.below) };
 
     ghost lawful = { λ s. R.Roll.lawful s.below };
 
-    ghost lawful_top = { λ s. raised_lawful (layer (E.Engine.key s.engine) (kind_byte s.kind)) (R.Roll.meaning s.below) (R.Roll.lawful_top s.below) };
+    ghost lawful_top = { λ s. raised_lawful (layer (E.key s.engine) (kind_byte s.kind)) (R.Roll.meaning s.below) (R.Roll.lawful_top s.below) };
 
     fn name(&self) -> u32 {
         self.below.name()

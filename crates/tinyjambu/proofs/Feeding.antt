@@ -4,7 +4,7 @@ use native.Mathlib.Nat.{mul-mod_left}
 use lib.Bits.{bit_xor, xor_assoc, xor_comm, xor_zero_r, xor_shifted, xor_shr, xor_mod}
 use lib.Pow.{shl-shr}
 use Rattle.std.proofs.lemmas.Bool.{cond-false, ne_eqb}
-use Rattle.engine.specs.Bytes.{number, bytes, AllBytes}
+use Rattle.engine.specs.Bytes.{number, AllBytes}
 use Rattle.tinyjambu.specs.Mode.{stream, xored}
 use Rattle.tinyjambu.specs.Duplex.{entered, fed_byte, fed, sealed_byte, sealed_bytes, text_of, sealed_of}
 use Rattle.tinyjambu.specs.declared.direction.Direction.{Direction}

@@ -6,7 +6,7 @@ use Rattle.std.proofs.lemmas.List.{take_at, drop_at, take_all, drop-drop, length
 use Rattle.refusal.specs.declared.fault.Fault.{Fault}
 use Rattle.refusal.specs.declared.refusal.Refusal.{Refusal}
 use Rattle.refusal.specs.declared.refusal.Refusal.TheVariants.{NonceLength, DataTooLong, TextTooLong}
-use Rattle.tinyjambu.specs.Answers.{longest, written, open_check, opened_answer, opened_out, opened_text_answer, opened_text_out}
+use Rattle.tinyjambu.specs.Answers.{longest, open_check, opened_answer, opened_out, opened_text_answer, opened_text_out}
 use Rattle.engine.specs.Bytes.{number, bytes, word_bytes, AllBytes}
 use Rattle.tinyjambu.specs.History.{sealed_piece, sealed_tag}
 use Rattle.tinyjambu.specs.Laws.{Exact}

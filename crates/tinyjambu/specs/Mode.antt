@@ -1,6 +1,6 @@
 -- TinyJAMBU as authenticated encryption with associated data, over lists of bytes, as its designers define it (version 2).
 -- A state is a number of 128 bits, bit j being s_j.
-use Rattle.std.specs.Prelude.{ℕ, ◌+◌, ◌-◌, ◌*◌, ◌/◌, ◌%◌, ◌^◌, Bool, true, false, cond, ◌&&◌, List, [], ◌∷◌, ◌++◌, length, take, drop, Some, None, Option, ◌==◌, bit_xor, nat_le}
+use Rattle.std.specs.Prelude.{ℕ, ◌-◌, ◌*◌, ◌/◌, ◌%◌, ◌^◌, Bool, true, false, cond, ◌&&◌, List, [], ◌∷◌, ◌++◌, length, take, drop, Some, None, Option, ◌==◌, bit_xor, nat_le}
 use Rattle.engine.specs.Permutation.{rounds, short_rounds, long_rounds}
 use Rattle.engine.specs.Bytes.{number, bytes}
 

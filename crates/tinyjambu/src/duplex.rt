@@ -20,8 +20,8 @@ pub struct Duplex {
 
 // One word of the nonce.
 fn nonce_step<E: Engine>(engine: &mut E, state: State, word: u32) -> State
-    ensures state { joined result ≡ nonce_word (key engine.old) word (joined state) }
-    ensures same { key engine.new ≡ key engine.old }
+    ensures state { joined result ≡ nonce_word (E.key engine.old) word (joined state) }
+    ensures same { E.key engine.new ≡ E.key engine.old }
 {
     put(framed_short_run(engine, state, 1), word, 96)
 }
@@ -29,8 +29,8 @@ fn nonce_step<E: Engine>(engine: &mut E, state: State, word: u32) -> State
 impl Duplex {
     // Takes the key and the nonce.
     pub(crate) fn begin<E: Engine>(engine: &mut E, nonce: [u32; 3]) -> Duplex
-        ensures took { TookData (key engine.old) (word_bytes nonce) [] (joined result.state) result.filled }
-        ensures same { key engine.new ≡ key engine.old }
+        ensures took { TookData (E.key engine.old) (word_bytes nonce) [] (joined result.state) result.filled }
+        ensures same { E.key engine.new ≡ E.key engine.old }
     {
         let [first, second, third] = nonce;
         let begun = engine.long_run([0; 4]);
@@ -42,9 +42,9 @@ impl Duplex {
 
     // Does the run of a block whose first byte comes now.
     fn enter<E: Engine>(&mut self, engine: &mut E, phase: Phase)
-        ensures state { joined self.new.state ≡ entered (phase_run phase (key engine.old)) self.old.filled (joined self.old.state) }
+        ensures state { joined self.new.state ≡ entered (phase_run phase (E.key engine.old)) self.old.filled (joined self.old.state) }
         ensures filled { self.new.filled ≡ self.old.filled }
-        ensures same { key engine.new ≡ key engine.old }
+        ensures same { E.key engine.new ≡ E.key engine.old }
     {
         if self.filled == 0 {
             self.state = match phase {
@@ -83,9 +83,9 @@ impl Duplex {
 
     // Takes one byte of associated data.
     fn absorb_byte<E: Engine>(&mut self, engine: &mut E, byte: u8)
-        ensures state { joined self.new.state ≡ fed_byte (data_run (key engine.old)) self.old.filled (joined self.old.state) byte }
+        ensures state { joined self.new.state ≡ fed_byte (data_run (E.key engine.old)) self.old.filled (joined self.old.state) byte }
         ensures filled { self.new.filled ≡ (self.old.filled + 1) % 4 }
-        ensures same { key engine.new ≡ key engine.old }
+        ensures same { E.key engine.new ≡ E.key engine.old }
     {
         self.enter(engine, Phase::Data);
         self.put_byte(byte);
@@ -94,17 +94,17 @@ impl Duplex {
     // Takes a full block of associated data, where no block is open.
     fn absorb_word<E: Engine>(&mut self, engine: &mut E, word: u32)
         requires { self.old.filled ≡ 0 }
-        ensures state { joined self.new.state ≡ bit_xor (data_run (key engine.old) (joined self.old.state)) (word * 2 ^ 96) }
+        ensures state { joined self.new.state ≡ bit_xor (data_run (E.key engine.old) (joined self.old.state)) (word * 2 ^ 96) }
         ensures filled { self.new.filled ≡ 0 }
-        ensures same { key engine.new ≡ key engine.old }
+        ensures same { E.key engine.new ≡ E.key engine.old }
     {
         self.state = put(framed_short_run(engine, self.state, 3), word, 96);
     }
 
     // Takes a piece of associated data.
     pub(crate) fn absorb<E: Engine>(&mut self, engine: &mut E, piece: &[u8])
-        ensures took { (nonce ad : List ℕ) → TookData (key engine.old) nonce ad (joined self.old.state) self.old.filled → TookData (key engine.old) nonce (ad ++ piece.now) (joined self.new.state) self.new.filled }
-        ensures same { key engine.new ≡ key engine.old }
+        ensures took { (nonce ad : List ℕ) → TookData (E.key engine.old) nonce ad (joined self.old.state) self.old.filled → TookData (E.key engine.old) nonce (ad ++ piece.now) (joined self.new.state) self.new.filled }
+        ensures same { E.key engine.new ≡ E.key engine.old }
     {
         let mut at = 0;
         while at < piece.len() {
@@ -127,10 +127,10 @@ impl Duplex {
 
     // Takes one byte of the text, or of the sealed text, and gives back the other.
     fn crypt_byte<E: Engine>(&mut self, engine: &mut E, direction: Direction, byte: u8) -> u8
-        ensures result { sealed_of direction byte result ≡ sealed_byte (text_run (key engine.old)) self.old.filled (joined self.old.state) (text_of direction byte result) }
-        ensures state { joined self.new.state ≡ fed_byte (text_run (key engine.old)) self.old.filled (joined self.old.state) (text_of direction byte result) }
+        ensures result { sealed_of direction byte result ≡ sealed_byte (text_run (E.key engine.old)) self.old.filled (joined self.old.state) (text_of direction byte result) }
+        ensures state { joined self.new.state ≡ fed_byte (text_run (E.key engine.old)) self.old.filled (joined self.old.state) (text_of direction byte result) }
         ensures filled { self.new.filled ≡ (self.old.filled + 1) % 4 }
-        ensures same { key engine.new ≡ key engine.old }
+        ensures same { E.key engine.new ≡ E.key engine.old }
     {
         self.enter(engine, Phase::Text);
         let other = byte ^ self.stream_byte();
@@ -141,10 +141,10 @@ impl Duplex {
     // Takes a full block of the text, or of the sealed text, where no block is open, and gives back the other.
     fn crypt_word<E: Engine>(&mut self, engine: &mut E, direction: Direction, word: u32) -> u32
         requires { self.old.filled ≡ 0 }
-        ensures result { sealed_of direction word result ≡ bit_xor (text_of direction word result) (stream (text_run (key engine.old) (joined self.old.state))) }
-        ensures state { joined self.new.state ≡ bit_xor (text_run (key engine.old) (joined self.old.state)) (text_of direction word result * 2 ^ 96) }
+        ensures result { sealed_of direction word result ≡ bit_xor (text_of direction word result) (stream (text_run (E.key engine.old) (joined self.old.state))) }
+        ensures state { joined self.new.state ≡ bit_xor (text_run (E.key engine.old) (joined self.old.state)) (text_of direction word result * 2 ^ 96) }
         ensures filled { self.new.filled ≡ 0 }
-        ensures same { key engine.new ≡ key engine.old }
+        ensures same { E.key engine.new ≡ E.key engine.old }
     {
         let state = framed_long_run(engine, self.state, 5);
         let other = word ^ stream_word(state);
@@ -161,10 +161,10 @@ impl Duplex {
         out: &mut [u8],
     )
         requires { length out.old ≡ length input.now }
-        ensures took { (nonce ad t : List ℕ) → TookText (key engine.old) nonce ad t (joined self.old.state) self.old.filled → TookText (key engine.old) nonce ad (t ++ text_of direction input.now out.new) (joined self.new.state) self.new.filled }
-        ensures out { (nonce ad t : List ℕ) → TookText (key engine.old) nonce ad t (joined self.old.state) self.old.filled → sealed_of direction input.now out.new ≡ sealed_piece (key engine.old) nonce ad t (text_of direction input.now out.new) }
+        ensures took { (nonce ad t : List ℕ) → TookText (E.key engine.old) nonce ad t (joined self.old.state) self.old.filled → TookText (E.key engine.old) nonce ad (t ++ text_of direction input.now out.new) (joined self.new.state) self.new.filled }
+        ensures out { (nonce ad t : List ℕ) → TookText (E.key engine.old) nonce ad t (joined self.old.state) self.old.filled → sealed_of direction input.now out.new ≡ sealed_piece (E.key engine.old) nonce ad t (text_of direction input.now out.new) }
         ensures len { length out.new ≡ length input.now }
-        ensures same { key engine.new ≡ key engine.old }
+        ensures same { E.key engine.new ≡ E.key engine.old }
     {
         let mut at = 0;
         while at < input.len() {
@@ -181,8 +181,8 @@ impl Duplex {
 
     // The eight bytes of the tag, once the text is closed.
     fn tag_bytes<E: Engine>(&self, engine: &mut E) -> [u8; 8]
-        ensures result { result ≡ tag (key engine.old) (joined self.now.state) }
-        ensures same { key engine.new ≡ key engine.old }
+        ensures result { result ≡ tag (E.key engine.old) (joined self.now.state) }
+        ensures same { E.key engine.new ≡ E.key engine.old }
     {
         let middle = framed_long_run(engine, self.state, 7);
         let end = framed_short_run(engine, middle, 7);
@@ -193,8 +193,8 @@ impl Duplex {
 
     // Ends the text, and gives the tag.
     pub(crate) fn tag<E: Engine>(&mut self, engine: &mut E) -> [u8; 8]
-        ensures result { (nonce ad t : List ℕ) → TookText (key engine.old) nonce ad t (joined self.old.state) self.old.filled → result ≡ sealed_tag (key engine.old) nonce ad t }
-        ensures same { key engine.new ≡ key engine.old }
+        ensures result { (nonce ad t : List ℕ) → TookText (E.key engine.old) nonce ad t (joined self.old.state) self.old.filled → result ≡ sealed_tag (E.key engine.old) nonce ad t }
+        ensures same { E.key engine.new ≡ E.key engine.old }
     {
         self.close();
         self.tag_bytes(engine)

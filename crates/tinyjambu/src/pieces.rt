@@ -23,8 +23,8 @@ fn joined_len(pieces: &[&[u8]]) -> usize
 
 // Takes pieces of associated data.
 fn absorb_pieces<E: Engine>(duplex: &mut Duplex, engine: &mut E, pieces: &[&[u8]])
-    ensures took { (nonce ad : List ℕ) → TookData (key engine.old) nonce ad (joined duplex.old.state) duplex.old.filled → TookData (key engine.old) nonce (ad ++ message pieces.now) (joined duplex.new.state) duplex.new.filled }
-    ensures same { key engine.new ≡ key engine.old }
+    ensures took { (nonce ad : List ℕ) → TookData (E.key engine.old) nonce ad (joined duplex.old.state) duplex.old.filled → TookData (E.key engine.old) nonce (ad ++ message pieces.now) (joined duplex.new.state) duplex.new.filled }
+    ensures same { E.key engine.new ≡ E.key engine.old }
 {
     for piece in pieces {
         duplex.absorb(engine, piece);
@@ -34,9 +34,9 @@ fn absorb_pieces<E: Engine>(duplex: &mut Duplex, engine: &mut E, pieces: &[&[u8]
 // Seals pieces of the text, one after another, into `out`, which is as long as they are together.
 fn seal_texts<E: Engine>(duplex: &mut Duplex, engine: &mut E, pieces: &[&[u8]], out: &mut [u8])
     requires { length out.old ≡ length (message pieces.now) }
-    ensures took { (nonce ad : List ℕ) → TookText (key engine.old) nonce ad [] (joined duplex.old.state) duplex.old.filled → TookText (key engine.old) nonce ad (message pieces.now) (joined duplex.new.state) duplex.new.filled }
-    ensures out { (nonce ad : List ℕ) → TookText (key engine.old) nonce ad [] (joined duplex.old.state) duplex.old.filled → out.new ≡ sealed_piece (key engine.old) nonce ad [] (message pieces.now) }
-    ensures same { key engine.new ≡ key engine.old }
+    ensures took { (nonce ad : List ℕ) → TookText (E.key engine.old) nonce ad [] (joined duplex.old.state) duplex.old.filled → TookText (E.key engine.old) nonce ad (message pieces.now) (joined duplex.new.state) duplex.new.filled }
+    ensures out { (nonce ad : List ℕ) → TookText (E.key engine.old) nonce ad [] (joined duplex.old.state) duplex.old.filled → out.new ≡ sealed_piece (E.key engine.old) nonce ad [] (message pieces.now) }
+    ensures same { E.key engine.new ≡ E.key engine.old }
 {
     let mut at = 0;
     for piece in pieces {
@@ -55,8 +55,8 @@ pub fn seal_pieces<E: Engine>(
     out: &mut [u8],
 ) -> Result<usize, Fault>
     ensures answer { result ≡ message_answer (message ad.now) (message text.now) out.old }
-    ensures out { out.new ≡ message_out (key engine.old) (word_bytes nonce) (message ad.now) (message text.now) out.old }
-    ensures same { key engine.new ≡ key engine.old }
+    ensures out { out.new ≡ message_out (E.key engine.old) (word_bytes nonce) (message ad.now) (message text.now) out.old }
+    ensures same { E.key engine.new ≡ E.key engine.old }
     ensures refused { is_ok result ≡ false → engine.new ≡ engine.old }
 {
     let len = joined_len(text);

@@ -29,8 +29,8 @@ pub struct TextSession<E> {
 impl<E: Engine> Session<E> {
     // Begins a session under a nonce, which the key must not have met before.
     pub fn new(engine: E, nonce: [u32; 3]) -> Session<E>
-        ensures begun { HasData key (word_bytes nonce) [] result }
-        ensures same { key result.engine ≡ E.Engine.key engine }
+        ensures begun { HasData E.key (word_bytes nonce) [] result }
+        ensures same { E.key result.engine ≡ E.key engine }
     {
         let mut engine = engine;
         let duplex = Duplex::begin(&mut engine, nonce);
@@ -44,8 +44,8 @@ impl<E: Engine> Session<E> {
     // Takes a piece of associated data: what was taken before is extended by it.
     pub fn absorb(&mut self, piece: &[u8]) -> Result<(), Fault>
         ensures answer { result ≡ data_answer self.old.taken (length piece.now) }
-        ensures extends { is_ok result ≡ true → (nonce ad : List ℕ) → HasData key nonce ad self.old → HasData key nonce (ad ++ piece.now) self.new }
-        ensures same { key self.new.engine ≡ key self.old.engine }
+        ensures extends { is_ok result ≡ true → (nonce ad : List ℕ) → HasData E.key nonce ad self.old → HasData E.key nonce (ad ++ piece.now) self.new }
+        ensures same { E.key self.new.engine ≡ E.key self.old.engine }
         ensures refused { is_ok result ≡ false → self.new ≡ self.old }
     {
         if too_long(self.taken, piece.len()) {
@@ -58,7 +58,7 @@ impl<E: Engine> Session<E> {
 
     // Ends the associated data, and goes on to the text.
     pub fn into_text(self) -> TextSession<E>
-        ensures ended { (nonce ad : List ℕ) → HasData key nonce ad self → HasText key nonce ad [] result }
+        ensures ended { (nonce ad : List ℕ) → HasData E.key nonce ad self → HasText E.key nonce ad [] result }
         ensures same { result.engine ≡ self.engine }
     {
         let Session {
@@ -80,9 +80,9 @@ impl<E: Engine> TextSession<E> {
     // Takes a piece of the text, and writes its part of the joined text's sealed form at the start of `out`.
     pub fn seal(&mut self, piece: &[u8], out: &mut [u8]) -> Result<usize, Fault>
         ensures answer { result ≡ text_answer self.old.taken (length piece.now) (length out.old) }
-        ensures extends { is_ok result ≡ true → (nonce ad t : List ℕ) → HasText key nonce ad t self.old → HasText key nonce ad (t ++ piece.now) self.new }
-        ensures out { is_ok result ≡ true → (nonce ad t : List ℕ) → HasText key nonce ad t self.old → out.new ≡ written (sealed_piece (key self.old.engine) nonce ad t piece.now) out.old }
-        ensures same { key self.new.engine ≡ key self.old.engine }
+        ensures extends { is_ok result ≡ true → (nonce ad t : List ℕ) → HasText E.key nonce ad t self.old → HasText E.key nonce ad (t ++ piece.now) self.new }
+        ensures out { is_ok result ≡ true → (nonce ad t : List ℕ) → HasText E.key nonce ad t self.old → out.new ≡ written (sealed_piece (E.key self.old.engine) nonce ad t piece.now) out.old }
+        ensures same { E.key self.new.engine ≡ E.key self.old.engine }
         ensures refused { is_ok result ≡ false → (self.new ≡ self.old) × (out.new ≡ out.old) }
     {
         let len = piece.len();
@@ -101,8 +101,8 @@ impl<E: Engine> TextSession<E> {
 
     // Ends the text, and gives the tag of the joined data and text, and the engine back.
     pub fn into_tag(self) -> ([u8; 8], E)
-        ensures tag { (nonce ad t : List ℕ) → HasText key nonce ad t self → result.0 ≡ sealed_tag (key self.engine) nonce ad t }
-        ensures same { key result.1 ≡ key self.engine }
+        ensures tag { (nonce ad t : List ℕ) → HasText E.key nonce ad t self → result.0 ≡ sealed_tag (E.key self.engine) nonce ad t }
+        ensures same { E.key result.1 ≡ E.key self.engine }
     {
         let TextSession {
             mut engine,

@@ -24,8 +24,8 @@ pub(crate) fn stream_word(state: State) -> u32
 // Puts the frame bits into s36 to s38, and does a short run.
 pub(crate) fn framed_short_run<E: Engine>(engine: &mut E, state: State, bits: u32) -> State
     requires { bits < 8 }
-    ensures state { joined result ≡ short (key engine.old) (frame bits (joined state)) }
-    ensures same { key engine.new ≡ key engine.old }
+    ensures state { joined result ≡ short (E.key engine.old) (frame bits (joined state)) }
+    ensures same { E.key engine.new ≡ E.key engine.old }
 {
     engine.short_run(put(state, bits, 36))
 }
@@ -33,8 +33,8 @@ pub(crate) fn framed_short_run<E: Engine>(engine: &mut E, state: State, bits: u3
 // Puts the frame bits into s36 to s38, and does a long run.
 pub(crate) fn framed_long_run<E: Engine>(engine: &mut E, state: State, bits: u32) -> State
     requires { bits < 8 }
-    ensures state { joined result ≡ long (key engine.old) (frame bits (joined state)) }
-    ensures same { key engine.new ≡ key engine.old }
+    ensures state { joined result ≡ long (E.key engine.old) (frame bits (joined state)) }
+    ensures same { E.key engine.new ≡ E.key engine.old }
 {
     engine.long_run(put(state, bits, 36))
 }

@@ -33,8 +33,8 @@ pub fn seal<E: Engine>(
     out: &mut [u8],
 ) -> Result<usize, Fault>
     ensures answer { result ≡ seal_answer nonce.now ad.now text.now out.old }
-    ensures out { out.new ≡ seal_out (key engine.old) nonce.now ad.now text.now out.old }
-    ensures same { key engine.new ≡ key engine.old }
+    ensures out { out.new ≡ seal_out (E.key engine.old) nonce.now ad.now text.now out.old }
+    ensures same { E.key engine.new ≡ E.key engine.old }
     ensures refused { is_ok result ≡ false → engine.new ≡ engine.old }
 {
     let Some(words) = nonce_words(nonce) else {
@@ -64,8 +64,8 @@ fn recover<E: Engine>(
     out: &mut [u8],
 ) -> bool
     requires { length out.old + 8 ≡ length sealed.now }
-    ensures text { opened (key engine.old) (word_bytes nonce) ad.now sealed.now ≡ (if result then Some out.new else None) }
-    ensures same { key engine.new ≡ key engine.old }
+    ensures text { opened (E.key engine.old) (word_bytes nonce) ad.now sealed.now ≡ (if result then Some out.new else None) }
+    ensures same { E.key engine.new ≡ E.key engine.old }
 {
     let len = out.len();
     let mut duplex = Duplex::begin(engine, nonce);
@@ -83,11 +83,11 @@ pub fn open<E: Engine>(
     sealed: &[u8],
     out: &mut [u8],
 ) -> Result<usize, Fault>
-    ensures answer { result ≡ open_answer (key engine.old) nonce.now ad.now sealed.now out.old }
-    ensures out { out.new ≡ open_out (key engine.old) nonce.now ad.now sealed.now out.old }
-    ensures exact { OpensExactly (key engine.old) nonce.now ad.now sealed.now out.old result out.new }
+    ensures answer { result ≡ open_answer (E.key engine.old) nonce.now ad.now sealed.now out.old }
+    ensures out { out.new ≡ open_out (E.key engine.old) nonce.now ad.now sealed.now out.old }
+    ensures exact { OpensExactly (E.key engine.old) nonce.now ad.now sealed.now out.old result out.new }
     ensures refused { is_some (open_refusal nonce.now ad.now sealed.now out.old) ≡ true → engine.new ≡ engine.old }
-    ensures same { key engine.new ≡ key engine.old }
+    ensures same { E.key engine.new ≡ E.key engine.old }
 {
     let mut guard = Wipe { out, kept: false };
     let Some(words) = nonce_words(nonce) else {

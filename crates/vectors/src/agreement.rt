@@ -7,8 +7,8 @@ use tinyjambu::Engine;
 
 // Whether sealing the text of a case gives exactly its sealed bytes. What the engine writes is left in `out`, which is as long as those.
 fn seals<E: Engine>(engine: &mut E, case: &Case, out: &mut [u8]) -> bool
-    ensures meant { result ≡ true → seal (key engine.old) case.now.nonce.items case.now.ad.items case.now.text.items ≡ case.now.sealed.items }
-    ensures same { key engine.new ≡ key engine.old }
+    ensures meant { result ≡ true → seal (E.key engine.old) case.now.nonce.items case.now.ad.items case.now.text.items ≡ case.now.sealed.items }
+    ensures same { E.key engine.new ≡ E.key engine.old }
 {
     match tinyjambu::seal(engine, &case.nonce, &case.ad, &case.text, out) {
         Ok(len) => len == out.len() && case.sealed == &*out,
@@ -18,8 +18,8 @@ fn seals<E: Engine>(engine: &mut E, case: &Case, out: &mut [u8]) -> bool
 
 // Whether opening the sealed bytes of a case gives exactly its text. What the engine writes is left in `out`, which is as long as that.
 fn opens<E: Engine>(engine: &mut E, case: &Case, out: &mut [u8]) -> bool
-    ensures meant { result ≡ true → opened (key engine.old) case.now.nonce.items case.now.ad.items case.now.sealed.items ≡ Some case.now.text.items }
-    ensures same { key engine.new ≡ key engine.old }
+    ensures meant { result ≡ true → opened (E.key engine.old) case.now.nonce.items case.now.ad.items case.now.sealed.items ≡ Some case.now.text.items }
+    ensures same { E.key engine.new ≡ E.key engine.old }
 {
     match tinyjambu::open(engine, &case.nonce, &case.ad, &case.sealed, out) {
         Ok(len) => len == out.len() && case.text == &*out,
@@ -33,8 +33,8 @@ pub(crate) fn agrees<E: Engine>(
     engine: &mut E,
     case: &Case,
 ) -> Result<bool, AllocError>
-    ensures sealed { IfOk result (λ b. b ≡ true → seal (key engine.old) case.now.nonce.items case.now.ad.items case.now.text.items ≡ case.now.sealed.items) }
-    ensures opened { IfOk result (λ b. b ≡ true → opened (key engine.old) case.now.nonce.items case.now.ad.items case.now.sealed.items ≡ Some case.now.text.items) }
+    ensures sealed { IfOk result (λ b. b ≡ true → seal (E.key engine.old) case.now.nonce.items case.now.ad.items case.now.text.items ≡ case.now.sealed.items) }
+    ensures opened { IfOk result (λ b. b ≡ true → opened (E.key engine.old) case.now.nonce.items case.now.ad.items case.now.sealed.items ≡ Some case.now.text.items) }
 {
     let mut sealed = vec![in heap; 0u8; case.sealed.len()]?;
     let mut text = vec![in heap; 0u8; case.text.len()]?;

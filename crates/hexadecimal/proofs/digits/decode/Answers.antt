@@ -5,7 +5,7 @@ use Rattle.hexadecimal.proofs.digits.decode.Goals as goal
 pub loop-i-preserved : goal.loop-i-preserved
 loop-i-preserved c =
     let at : vec_len c.loop-i.bytes ≡ c.loop-i.i = c.loop-i.invariant.0 in
-    let pushed : is_ok c.push.result ≡ true = ap is_ok c.in-ok-push.was in (
+    let pushed : is_ok c.push.result ≡ true = ap is_ok c.in_ok-push.was in (
       search rules,
       below_more _ _
           (λ k h. let lt : k < vec_len c.loop-i.bytes = omega arith in cc (c.loop-i.invariant.1 k h, c.push.ensures.by_index.0 k 0 lt))

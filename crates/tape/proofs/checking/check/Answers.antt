@@ -13,8 +13,8 @@ returns-then-not-is_tape_length c =
     let f = fails_length memory short in
     record { answer = ap Err c.outside.ensures ∙ sym (cond-false _ _ _ short); finds = (λ o. both_ways (in_order memory) f (in_order_is memory o), tape-nothing memory f) }
 
-pub overflow-cast-result : goal.overflow-cast-result
-overflow-cast-result c =
+pub overflow_cast-result : goal.overflow_cast-result
+overflow_cast-result c =
     let o = judged_order c.args.memory.now _ (sym c.judge.ensures ∙ c.in-Some.is) in
     omega (arith, ap (λ x. x.count) o.1, o.0.few)
 

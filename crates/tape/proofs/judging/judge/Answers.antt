@@ -28,8 +28,8 @@ loop-i-preserved c =
       every_more (entry_ordered memory) i (sym tested ∙ sym c.if-not-entry_ordered.ensures) c.loop-i.invariant.1,
     )
 
-pub overflow-sub-len : goal.overflow-sub-len
-overflow-sub-len c = omega (arith, header_room c.args.memory.now (sym c.if-not-header_ordered.ensures), c.word-count.ensures)
+pub overflow_sub-len : goal.overflow_sub-len
+overflow_sub-len c = omega (arith, header_room c.args.memory.now (sym c.if-not-header_ordered.ensures), c.word-count.ensures)
 
 pub returns-then-end-len : goal.returns-then-end-len
 returns-then-end-len c =

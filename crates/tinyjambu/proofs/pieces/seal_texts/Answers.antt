@@ -6,13 +6,13 @@ use Rattle.tinyjambu.specs.Message.{message}
 use Rattle.tinyjambu.proofs.Messages.{nothing, message_more, message_all, end_within, text_piece}
 use Rattle.tinyjambu.proofs.pieces.seal_texts.Goals as goal
 
-pub overflow-add-end : goal.overflow-add-end
-overflow-add-end g c =
+pub overflow_add-end : goal.overflow_add-end
+overflow_add-end g c =
     let end = end_within c.args.pieces.now c.loop-piece.piece-index c.loop-piece.at (length c.loop-piece.out) c.loop-piece-test.true c.loop-piece.invariant.0 (c.loop-piece.auto.out ∙ c.requires) in
     record { fits = omega arith }
 
-pub slice-bounds-crypt-end-in-loop-piece : goal.slice-bounds-crypt-end-in-loop-piece
-slice-bounds-crypt-end-in-loop-piece g c =
+pub slice_bounds-crypt-end-in-loop-piece : goal.slice_bounds-crypt-end-in-loop-piece
+slice_bounds-crypt-end-in-loop-piece g c =
     end_within c.args.pieces.now c.loop-piece.piece-index c.loop-piece.at (length c.loop-piece.out) c.loop-piece-test.true c.loop-piece.invariant.0 (c.loop-piece.auto.out ∙ c.requires)
 
 pub loop-piece-init : goal.loop-piece-init

@@ -7,8 +7,8 @@ paged-at-requires c =
     let p = c.args.self.now in
     omega (arith, paged_within p.lengths c.loop-i.i p.count (omega arith) (omega arith))
 
-pub overflow-add-at : goal.overflow-add-at
-overflow-add-at c =
+pub overflow_add-at : goal.overflow_add-at
+overflow_add-at c =
     let p = c.args.self.now in
     record { fits = omega (arith, paged_within p.lengths c.loop-i.i p.count (omega arith) (omega arith)) }
 

@@ -37,8 +37,8 @@ bounds-self-self c =
     let free = row_free (take p.count p.lengths) (length t) (omega (arith, c.if-at-paged.false)) in
     omega (arith, length-take-le p.count p.lengths (omega arith))
 
-pub invariant-of-self : goal.invariant-of-self
-invariant-of-self c =
+pub invariant_of-self : goal.invariant_of-self
+invariant_of-self c =
     let p = c.args.self.now in
     let t : List ℕ = c.args.text.now in
     let ns : List ℕ = take p.count p.lengths in

@@ -24,13 +24,13 @@ returns-then-guard-len c =
     let done = read_long m i c.args.out.now _ e (omega (arith, c.if-guard-len.true)) in
     record { answer = sym done.0; out = c.drop-guard-then-guard-len.ensures ∙ sym done.1; same = refl; stored = refl; floors = refl; bytes = refl }
 
-pub overflow-add-at : goal.overflow-add-at
-overflow-add-at c =
+pub overflow_add-at : goal.overflow_add-at
+overflow_add-at c =
     let p = c.args.self.now in
     record { fits = omega (arith, c.start-at.ensures, paged_within p.lengths c.args.entry p.count c.if-entry-self.false (omega arith)) }
 
-pub slice-bounds-copy_from_slice-end-2 : goal.slice-bounds-copy_from_slice-end-2
-slice-bounds-copy_from_slice-end-2 c =
+pub slice_bounds-copy_from_slice-end-2 : goal.slice_bounds-copy_from_slice-end-2
+slice_bounds-copy_from_slice-end-2 c =
     let p = c.args.self.now in
     omega (arith, c.start-at.ensures, paged_within p.lengths c.args.entry p.count c.if-entry-self.false (omega arith))
 

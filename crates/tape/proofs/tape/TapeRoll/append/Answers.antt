@@ -8,8 +8,8 @@ use Rattle.tape.specs.Tape.{count_of, tape, entry_put}
 use Rattle.tape.proofs.Tapes.{tape_is, tape_count, begins_late, bound-most, charge_under, opened_in_order, opened_nothing, append_put, append_judged, append_taken, append_means, tape_refused}
 use Rattle.tape.proofs.tape.TapeRoll.append.Goals as goal
 
-pub returns-in-default : goal.returns-in-default
-returns-in-default c =
+pub returns-in_default : goal.returns-in_default
+returns-in_default c =
     let s = c.args.self.now in
     let memory : List ℕ = vec_items s.memory in
     let t : List ℕ = c.args.text.now in
@@ -69,8 +69,8 @@ write_entry-requires c =
       header = omega (arith, y, begins_late memory o.0 (count_of memory) (omega arith));
     }
 
-pub invariant-of-self : goal.invariant-of-self
-invariant-of-self c =
+pub invariant_of-self : goal.invariant_of-self
+invariant_of-self c =
     let s = c.args.self.now in
     let memory : List ℕ = vec_items s.memory in
     let t : List ℕ = c.args.text.now in

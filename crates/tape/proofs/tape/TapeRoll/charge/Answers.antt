@@ -3,8 +3,8 @@ use Rattle.tape.specs.TapeLaws.{tape_lawful}
 use Rattle.tape.proofs.Tapes.{charge_under, bound-most}
 use Rattle.tape.proofs.tape.TapeRoll.charge.Goals as goal
 
-pub overflow-add-result : goal.overflow-add-result
-overflow-add-result c = record { fits = omega (arith, c.if-n-bound.true, c.bound.ensures, bound-most (vec_items c.args.self.now.memory)) }
+pub overflow_add-result : goal.overflow_add-result
+overflow_add-result c = record { fits = omega (arith, c.if-n-bound.true, c.bound.ensures, bound-most (vec_items c.args.self.now.memory)) }
 
 pub returns-then-n-bound : goal.returns-then-n-bound
 returns-then-n-bound c = sym (charge_under (vec_items c.args.self.now.memory) c.args.n (omega (arith, c.if-n-bound.true, c.bound.ensures)))

@@ -3,8 +3,8 @@ use Rattle.roll.specs.Roll.{count}
 use Rattle.tape.proofs.Tapes.{tape_is, tape_count, opened_in_order, opened_nothing}
 use Rattle.tape.proofs.tape.TapeRoll.count.Goals as goal
 
-pub overflow-cast-result : goal.overflow-cast-result
-overflow-cast-result c =
+pub overflow_cast-result : goal.overflow_cast-result
+overflow_cast-result c =
     let s = c.args.self.now in
     let memory : List ℕ = vec_items s.memory in
     let o = opened_in_order memory _ s.known _ c.in-Some.is in

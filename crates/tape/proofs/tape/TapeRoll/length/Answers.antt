@@ -5,20 +5,20 @@ use Rattle.tape.specs.Tape.{tape}
 use Rattle.tape.proofs.Tapes.{not_placed, span_within, span_entry, span_length}
 use Rattle.tape.proofs.tape.TapeRoll.length.Goals as goal
 
-pub returns-in-err-begin : goal.returns-in-err-begin
-returns-in-err-begin c =
+pub returns-in_err-begin : goal.returns-in_err-begin
+returns-in_err-begin c =
     let memory : List ℕ = vec_items c.args.self.now.memory in
-    let e = err_from_is_err_and c.from-residual.result c.from-residual.ensures.1 in
-    let n = not_placed memory c.args.entry _ (sym c.place.ensures ∙ c.in-err-begin.was) in
+    let e = err_from_is_err_and c.from_residual.result c.from_residual.ensures.1 in
+    let n = not_placed memory c.args.entry _ (sym c.place.ensures ∙ c.in_err-begin.was) in
     e.1 ∙ ap Err (e.2 ∙ n.1) ∙ sym (length_missing (tape memory) c.args.entry n.0)
 
-pub overflow-sub-result : goal.overflow-sub-result
-overflow-sub-result c =
+pub overflow_sub-result : goal.overflow_sub-result
+overflow_sub-result c =
     let memory : List ℕ = vec_items c.args.self.now.memory in
-    (span_within memory c.args.entry _ (sym c.place.ensures ∙ c.in-ok-begin.was)).0
+    (span_within memory c.args.entry _ (sym c.place.ensures ∙ c.in_ok-begin.was)).0
 
 pub returns : goal.returns
 returns c =
     let memory : List ℕ = vec_items c.args.self.now.memory in
-    let p = sym c.place.ensures ∙ c.in-ok-begin.was in
+    let p = sym c.place.ensures ∙ c.in_ok-begin.was in
     sym (length_given (tape memory) c.args.entry _ (span_entry memory c.args.entry _ p) ∙ ap Ok (span_length memory c.args.entry _ p))

@@ -8,47 +8,47 @@ use Rattle.tape.specs.Tape.{tape}
 use Rattle.tape.proofs.Tapes.{tape-floor, not_placed, span_within, span_entry, span_length}
 use Rattle.tape.proofs.tape.TapeRoll.read.Goals as goal
 
-pub returns-in-err-begin : goal.returns-in-err-begin
-returns-in-err-begin c =
+pub returns-in_err-begin : goal.returns-in_err-begin
+returns-in_err-begin c =
     let memory : List ℕ = vec_items c.args.self.now.memory in
-    let e = err_from_is_err_and c.from-residual.result c.from-residual.ensures.1 in
-    let n = not_placed memory c.args.entry _ (sym c.place.ensures ∙ c.in-err-begin.was) in
+    let e = err_from_is_err_and c.from_residual.result c.from_residual.ensures.1 in
+    let n = not_placed memory c.args.entry _ (sym c.place.ensures ∙ c.in_err-begin.was) in
     let done = read_missing (tape memory) c.args.entry c.args.out.now n.0 in
     record { answer = e.1 ∙ ap Err (e.2 ∙ n.1) ∙ sym done.0; out = c.drop-guard.ensures ∙ sym done.1; same = refl; stored = refl; floors = refl; bytes = refl }
 
-pub overflow-sub-len : goal.overflow-sub-len
-overflow-sub-len c =
+pub overflow_sub-len : goal.overflow_sub-len
+overflow_sub-len c =
     let memory : List ℕ = vec_items c.args.self.now.memory in
-    (span_within memory c.args.entry _ (sym c.place.ensures ∙ c.in-ok-begin.was)).0
+    (span_within memory c.args.entry _ (sym c.place.ensures ∙ c.in_ok-begin.was)).0
 
 pub returns-then-guard-len : goal.returns-then-guard-len
 returns-then-guard-len c =
     let memory : List ℕ = vec_items c.args.self.now.memory in
-    let p = sym c.place.ensures ∙ c.in-ok-begin.was in
+    let p = sym c.place.ensures ∙ c.in_ok-begin.was in
     let done = read_long (tape memory) c.args.entry c.args.out.now _ (span_entry memory c.args.entry _ p) (omega (arith, c.if-guard-len.true, span_length memory c.args.entry _ p)) in
     record { answer = ap Err (c.refusal.ensures ∙ ap (λ k. fault OutTooShort k c.args.entry) (sym (tape-floor memory))) ∙ sym done.0; out = c.drop-guard-then-guard-len.ensures ∙ sym done.1; same = refl; stored = refl; floors = refl; bytes = refl }
 
-pub slice-bounds-copy_from_slice-count-2 : goal.slice-bounds-copy_from_slice-count-2
-slice-bounds-copy_from_slice-count-2 c =
+pub slice_bounds-copy_from_slice-count-2 : goal.slice_bounds-copy_from_slice-count-2
+slice_bounds-copy_from_slice-count-2 c =
     let memory : List ℕ = vec_items c.args.self.now.memory in
-    (span_within memory c.args.entry _ (sym c.place.ensures ∙ c.in-ok-begin.was)).0
+    (span_within memory c.args.entry _ (sym c.place.ensures ∙ c.in_ok-begin.was)).0
 
-pub slice-bounds-copy_from_slice-start-2 : goal.slice-bounds-copy_from_slice-start-2
-slice-bounds-copy_from_slice-start-2 c =
+pub slice_bounds-copy_from_slice-start-2 : goal.slice_bounds-copy_from_slice-start-2
+slice_bounds-copy_from_slice-start-2 c =
     let memory : List ℕ = vec_items c.args.self.now.memory in
-    (span_within memory c.args.entry _ (sym c.place.ensures ∙ c.in-ok-begin.was)).0
+    (span_within memory c.args.entry _ (sym c.place.ensures ∙ c.in_ok-begin.was)).0
 
-pub slice-bounds-copy_from_slice-end-2 : goal.slice-bounds-copy_from_slice-end-2
-slice-bounds-copy_from_slice-end-2 c =
+pub slice_bounds-copy_from_slice-end-2 : goal.slice_bounds-copy_from_slice-end-2
+slice_bounds-copy_from_slice-end-2 c =
     let memory : List ℕ = vec_items c.args.self.now.memory in
-    let within = span_within memory c.args.entry _ (sym c.place.ensures ∙ c.in-ok-begin.was) in
+    let within = span_within memory c.args.entry _ (sym c.place.ensures ∙ c.in_ok-begin.was) in
     omega (arith, within.1, ap length c.deref.ensures.value)
 
 pub returns : goal.returns
 returns c =
     let memory : List ℕ = vec_items c.args.self.now.memory in
-    let at = c.in-ok-begin.field-0 in
-    let p = sym c.place.ensures ∙ c.in-ok-begin.was in
+    let at = c.in_ok-begin.field-0 in
+    let p = sym c.place.ensures ∙ c.in_ok-begin.was in
     let within = span_within memory c.args.entry at p in
     let n = span_length memory c.args.entry at p in
     let done = read_given (tape memory) c.args.entry c.args.out.now _ (span_entry memory c.args.entry at p) (omega (arith, c.if-guard-len.false, n)) in

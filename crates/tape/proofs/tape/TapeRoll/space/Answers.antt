@@ -2,24 +2,24 @@ use Rattle.std.proofs.Common.{ℕ, ◌+◌, ◌-◌, ◌*◌, ◌≤◌, List, v
 use Rattle.tape.proofs.Tapes.{tape_is, opened_in_order, opened_nothing}
 use Rattle.tape.proofs.tape.TapeRoll.space.Goals as goal
 
-pub overflow-mul-result : goal.overflow-mul-result
-overflow-mul-result c =
+pub overflow_mul-result : goal.overflow_mul-result
+overflow_mul-result c =
     let s = c.args.self.now in
     let memory : List ℕ = vec_items s.memory in
     let o = opened_in_order memory _ s.known _ c.in-Some.is in
     let x = ap (λ e. e.count) o.1 in
     record { fits = omega (arith, x, o.0.few) }
 
-pub overflow-sub-result : goal.overflow-sub-result
-overflow-sub-result c =
+pub overflow_sub-result : goal.overflow_sub-result
+overflow_sub-result c =
     let s = c.args.self.now in
     let memory : List ℕ = vec_items s.memory in
     let o = opened_in_order memory _ s.known _ c.in-Some.is in
     let x = ap (λ e. e.count) o.1 in
     omega (arith, x, o.0.room, s.memory.ok.0)
 
-pub overflow-sub-result-in-Some : goal.overflow-sub-result-in-Some
-overflow-sub-result-in-Some c =
+pub overflow_sub-result-in-Some : goal.overflow_sub-result-in-Some
+overflow_sub-result-in-Some c =
     let s = c.args.self.now in
     let memory : List ℕ = vec_items s.memory in
     let o = opened_in_order memory _ s.known _ c.in-Some.is in
@@ -27,8 +27,8 @@ overflow-sub-result-in-Some c =
     let y = ap (λ e. e.end) o.1 in
     omega (arith, x, y, o.0.apart, s.memory.ok.0)
 
-pub overflow-cast-result : goal.overflow-cast-result
-overflow-cast-result c =
+pub overflow_cast-result : goal.overflow_cast-result
+overflow_cast-result c =
     let s = c.args.self.now in
     let memory : List ℕ = vec_items s.memory in
     let o = opened_in_order memory _ s.known _ c.in-Some.is in

@@ -19,6 +19,6 @@ returns g c =
     let e₁ = c.nonce_step-one.ensures.state ∙ ap₂ (λ k s. nonce_word k (get_or n 0 0) s) k₁ e₀ in
     let e₂ = c.nonce_step-two.ensures.state ∙ ap₂ (λ k s. nonce_word k (get_or n 1 0) s) k₂ e₁ in
     let e₃ = c.nonce_step-state.ensures.state ∙ ap₂ (λ k s. nonce_word k (get_or n 2 0) s) k₃ e₂ in
-    let e = e₃ ∙ begun-words key (get_or n 0 0) (get_or n 1 0) (get_or n 2 0) c.element-fits.ranges c.element-fits2.ranges c.element-fits3.ranges
+    let e = e₃ ∙ begun-words key (get_or n 0 0) (get_or n 1 0) (get_or n 2 0) c.element_fits.fits c.element_fits2.fits c.element_fits3.fits
     ∙ ap (λ ws. begun key (word_bytes ws)) (three n (omega arith)) in
     record { took = data_none key (word_bytes n) _ 0 e refl; same = c.nonce_step-state.ensures.same ∙ k₃ }
