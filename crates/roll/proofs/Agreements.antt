@@ -1,8 +1,8 @@
 -- Two rolls compared entry by entry.
-use Rattle.std.proofs.Common.{◌≡◌, ℕ, zero, suc, ◌+◌, ◌<◌, ◌≤◌, Bool, true, false, List, [], ◌∷◌, length, drop, Some, None, Decides, Option, sym, refl, subst, subst₂, ⊎_elim, arith}
-use Rattle.std.proofs.lemmas.Bool.{both_ways, cases_lt}
+use Rattle.std.proofs.Common.{◌≡◌, ℕ, zero, suc, ◌<◌, ◌≤◌, Bool, List, [], ◌∷◌, length, drop, Some, None, Decides, Option, sym, refl, subst, subst₂, ⊎_elim, arith}
+use Rattle.std.proofs.lemmas.Bool.{cases_lt}
 use Rattle.roll.specs.Roll.{Meaning, Entry, text, broken, count, entry, first}
-use Rattle.roll.specs.Agree.{Alike, AlikeThere, Agree}
+use Rattle.roll.specs.Agree.{AlikeThere, Agree}
 use Rattle.roll.proofs.Reading.{BrokenThere}
 
 -- two texts are alike if they are the same

@@ -1,5 +1,5 @@
-use Rattle.std.proofs.Common.{◌≡◌, refl, arith, rules}
-use Rattle.roll.specs.Roll.{Meaning, count}
+use Rattle.std.proofs.Common.{refl, arith, rules}
+use Rattle.roll.specs.Roll.{Meaning}
 use Rattle.roll.proofs.Agreements.{all_alike}
 use Rattle.roll.proofs.agreement.agree.Goals as goal
 

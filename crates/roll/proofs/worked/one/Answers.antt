@@ -1,4 +1,4 @@
-use Rattle.std.proofs.Common.{◌≡◌, ℕ, List, Some, sym, ap, ◌∙◌, rules}
+use Rattle.std.proofs.Common.{ℕ, List, sym, ap, ◌∙◌, rules}
 use Rattle.roll.specs.Roll.{Meaning, count, append_answer, image_after}
 use Rattle.roll.specs.Floor.{sealed}
 use Rattle.roll.specs.Life.{appends, image_by}

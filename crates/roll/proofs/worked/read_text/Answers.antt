@@ -10,5 +10,5 @@ returns-in-Ok g c =
 
 pub returns-in_default : goal.returns-in_default
 returns-in_default g c =
-    let q = read_none (g.R.Roll.meaning c.args.roll.now) c.args.number 4096 c.in-default.field-0 (g.R.Roll.lawful_top c.args.roll.now) refl (sym c.read-r.ensures.answer ∙ c.in-default.is) in
+    let q = read_none (g.R.Roll.meaning c.args.roll.now) c.args.number 4096 c.in_default.field-0 (g.R.Roll.lawful_top c.args.roll.now) refl (sym c.read-r.ensures.answer ∙ c.in_default.is) in
     record { result = search rules; told = search rules; len = search rules; room = search rules; stored = search rules; floors = search rules; bytes = search rules }

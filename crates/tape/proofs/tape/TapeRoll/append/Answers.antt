@@ -13,7 +13,7 @@ returns-in_default c =
     let s = c.args.self.now in
     let memory : List ℕ = vec_items s.memory in
     let t : List ℕ = c.args.text.now in
-    let bound = ap (λ m. m.bound) (opened_nothing memory _ s.known c.in-default.is) in
+    let bound = ap (λ m. m.bound) (opened_nothing memory _ s.known c.in_default.is) in
     let a = too_long (tape memory) t (omega (arith, bound)) in
     let d = tape_refused memory t EntryTooLong _ _ c.refusal.ensures c.count-entry.ensures a in
     record { answer = d.0; after = d.1; stored = d.1; floors = refl; bytes = refl; refused = λ _. refl }
