@@ -1,7 +1,7 @@
-ghost use Rattle.std.specs.Prelude.{◌≡◌, ◌∷◌};
+ghost use Rattle.std.specs.Prelude.{◌≡◌, ◌∷◌, refl};
 ghost use Rattle.std.proofs.Common.{ap};
-ghost use Rattle.roll.specs.Roll.{fault};
-ghost use Rattle.roll.specs.Floor.{raised};
+ghost use Rattle.roll.specs.Roll.{fault, count};
+ghost use Rattle.roll.specs.Floor.{raised, sealed};
 ghost use Rattle.roll.specs.Kinds.{kind_byte};
 ghost use Rattle.roll.specs.Laws.{raised_lawful};
 ghost use Rattle.floor.specs.Laid.{layer};
@@ -45,13 +45,17 @@ impl<R: Roll, E: Engine> Roll for Floor<R, E> {
 
     ghost image = { λ s. R.Roll.image s.below };
 
-    ghost put = { R.Roll.put };
+    ghost put = { λ s t. R.Roll.writes (R.Roll.bottom s.below) (R.Roll.image s.below) (sealed (layer (E.key s.engine) (kind_byte s.kind) ∷ R.Roll.layers s.below) (R.Roll.bottom s.below) (count (R.Roll.bottom s.below)) t) };
+
+    ghost writes = { R.Roll.writes };
 
     ghost stands = { λ s. ap (raised (layer (E.key s.engine) (kind_byte s.kind))) (R.Roll.stands s.below) };
 
     ghost lawful = { λ s. R.Roll.lawful s.below };
 
     ghost lawful_top = { λ s. raised_lawful (layer (E.key s.engine) (kind_byte s.kind)) (R.Roll.meaning s.below) (R.Roll.lawful_top s.below) };
+
+    ghost puts = { λ s t. refl };
 
     fn name(&self) -> u32 {
         self.below.name()

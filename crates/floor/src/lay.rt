@@ -23,7 +23,7 @@ pub trait Lay<R: Roll, E: Engine>: Roll {
         ensures floors { Self.Roll.layers result ≡ layer (E.key engine) (kind_byte kind) ∷ R.Roll.layers below }
         ensures stands { Self.Roll.bottom result ≡ R.Roll.bottom below }
         ensures bytes { Self.Roll.image result ≡ R.Roll.image below }
-        ensures writes { Self.Roll.put ≡ R.Roll.put }
+        ensures writes { Self.Roll.writes ≡ R.Roll.writes }
         ensures life { Lives (Self.Roll.layers result) (Self.Roll.bottom result) };
 
     // Lifts it: gives back the roll below and the engine, as they are.

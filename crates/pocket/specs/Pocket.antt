@@ -1,6 +1,6 @@
 -- What a pocket means: 64 pages of 64 bytes, in which each entry begins on a page of its own.
-use Rattle.std.specs.Prelude.{ℕ, ◌+◌, ◌-◌, ◌*◌, ◌/◌, max, cond, List, [], ◌∷◌, nat_lt}
-use Rattle.roll.specs.Memory.{part, written}
+use Rattle.std.specs.Prelude.{ℕ, ◌+◌, ◌-◌, ◌*◌, ◌/◌, max, cond, List, [], ◌∷◌, ◌++◌, length, take, drop, nat_lt}
+use Rattle.roll.specs.Memory.{written}
 use Rattle.roll.specs.Roll.{Meaning, Entry, text, Put}
 
 -- the bytes of the pages that an entry of n bytes takes, which is at least one
@@ -15,7 +15,7 @@ paged_all (n ∷ ns) = paged n + paged_all ns
 -- the entries of these lengths, of which the first begins at a place of the bytes
 abbrev pub entries_at : List ℕ → ℕ → List ℕ → List Entry
 entries_at bytes at [] = []
-entries_at bytes at (n ∷ ns) = text (part at n bytes) ∷ entries_at bytes (at + paged n) ns
+entries_at bytes at (n ∷ ns) = text (take n (drop at bytes)) ∷ entries_at bytes (at + paged n) ns
 
 -- what an entry costs: its pages, where it is short enough
 abbrev pub pocket_charge : ℕ → ℕ
@@ -32,6 +32,10 @@ pocket name bytes lengths = record {
   entries = entries_at bytes 0 lengths;
 }
 
--- a text that is accepted is written behind the pages in use
-abbrev pub pocket_put : Put
-pocket_put m bytes t = written (4096 - m.space) t bytes
+-- the bytes after an accepted append of t, which begins behind the pages in use
+abbrev pub pocket_put : List ℕ → List ℕ → List ℕ → List ℕ
+pocket_put bytes lengths t = take (paged_all lengths) bytes ++ (t ++ drop (paged_all lengths + length t) bytes)
+
+-- so a text that is accepted is written, by the space and the bytes alone
+abbrev pub pocket_writes : Put
+pocket_writes m bytes t = written (4096 - m.space) t bytes

@@ -3,7 +3,8 @@ use Rattle.std.specs.Prelude.{◌≡◌, ℕ, suc, ◌+◌, ◌-◌, ◌*◌, �
 use Rattle.std.proofs.Common.{ap, arith, length-take, length-drop}
 use Rattle.std.proofs.lemmas.Bool.{lt-ltb, le-ltb, cond-true, cond-false}
 use Rattle.roll.specs.Roll.{Meaning, count, Lawful, ShortEntries}
-use Rattle.pocket.specs.Pocket.{paged, entries_at, pocket_charge, pocket}
+use Rattle.roll.specs.Memory.{written}
+use Rattle.pocket.specs.Pocket.{paged, paged_all, entries_at, pocket_charge, pocket, pocket_put, pocket_writes}
 
 -- as many entries as lengths
 pub entries-count : (bytes : List ℕ) (at : ℕ) (ns : List ℕ) → length (entries_at bytes at ns) ≡ length ns
@@ -31,6 +32,10 @@ pocket_lawful name bytes ns e few = record {
   low = omega arith;
   small = omega arith;
 }
+
+-- an append puts what the bytes and the space say
+pub pocket_puts : (name : ℕ) (bytes ns t : List ℕ) → paged_all ns ≤ 4096 → pocket_put bytes ns t ≡ pocket_writes (pocket name bytes ns) bytes t
+pocket_puts name bytes ns t h = ap (λ at. written at t bytes) (omega arith)
 
 -- the first lengths of a list, of which there are few
 pub few_taken : (c : ℕ) (ns : List ℕ) → c ≤ 64 → length (take c ns) ≤ 64

@@ -1,6 +1,6 @@
 ghost use Rattle.std.specs.Prelude.{◌≡◌, ◌<◌, ◌≤◌, [], length, take, replicate, refl};
-ghost use Rattle.pocket.specs.Pocket.{paged, paged_all, pocket, pocket_put};
-ghost use Rattle.pocket.specs.PocketLaws.{pocket_lawful, few_taken};
+ghost use Rattle.pocket.specs.Pocket.{paged, paged_all, pocket, pocket_put, pocket_writes};
+ghost use Rattle.pocket.specs.PocketLaws.{pocket_lawful, pocket_puts, few_taken};
 
 use roll::Roll;
 use tinyjambu::{Fault, Refusal, Wipe};
@@ -68,13 +68,17 @@ impl Roll for Pocket {
 
     ghost image = { λ s. s.bytes };
 
-    ghost put = { pocket_put };
+    ghost put = { λ s t. pocket_put s.bytes (take s.count s.lengths) t };
+
+    ghost writes = { pocket_writes };
 
     ghost stands = { λ s. refl };
 
     ghost lawful = { λ s. pocket_lawful s.name s.bytes (take s.count s.lengths) s.whole (few_taken s.count s.lengths s.few) };
 
     ghost lawful_top = { λ s. pocket_lawful s.name s.bytes (take s.count s.lengths) s.whole (few_taken s.count s.lengths s.few) };
+
+    ghost puts = { λ s t. pocket_puts s.name s.bytes (take s.count s.lengths) t s.fits };
 
     fn name(&self) -> u32 {
         self.name

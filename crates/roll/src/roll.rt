@@ -14,10 +14,13 @@ pub trait Roll {
 
     ghost layers: { Self → List Layer };
 
-    // The bytes that its bottom holds, and how its bottom writes a text that it accepts.
+    // The bytes that its bottom holds, and those after an accepted append of a text.
     ghost image: { Self → List ℕ };
 
-    ghost put: { Put };
+    ghost put: { Self → List ℕ → List ℕ };
+
+    // How its bottom writes a text that it accepts, by no more than the bottom's meaning and bytes.
+    ghost writes: { Put };
 
     // What each roll owes: its meaning is that of its pile, and its bottom and its meaning keep the laws.
     ghost stands: { (s : Self) → meaning s ≡ piled (layers s) (bottom s) };
@@ -25,6 +28,9 @@ pub trait Roll {
     ghost lawful: { (s : Self) → Lawful (bottom s) };
 
     ghost lawful_top: { (s : Self) → Lawful (meaning s) };
+
+    // An append puts what the bottom writes of the text, sealed by each floor from the top down.
+    ghost puts: { (s : Self) (t : List ℕ) → put s t ≡ writes (bottom s) (image s) (sealed (layers s) (bottom s) (count (bottom s)) t) };
 
     // The name, which goes into nonces.
     fn name(&self) -> u32
@@ -60,7 +66,7 @@ pub trait Roll {
         ensures after { meaning self.new ≡ append_after (meaning self.old) text.now }
         ensures stored { bottom self.new ≡ append_after (bottom self.old) (sealed (layers self.old) (bottom self.old) (count (bottom self.old)) text.now) }
         ensures floors { layers self.new ≡ layers self.old }
-        ensures bytes { image self.new ≡ image_after result (put (bottom self.old) (image self.old) (sealed (layers self.old) (bottom self.old) (count (bottom self.old)) text.now)) (image self.old) }
+        ensures bytes { image self.new ≡ image_after result (put self.old text.now) (image self.old) }
         ensures refused { is_ok result ≡ false → self.new ≡ self.old };
 
     // Writes the text of an entry at the start of `out`, and answers its length, or refuses with 8, 12 or 13 and leaves only

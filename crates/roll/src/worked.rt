@@ -37,7 +37,7 @@ fn one<R: Roll>(roll: &mut R, call: &Call<'_>, texts: &mut Vec<u8>) -> Answer
     ensures room { vec_capacity texts.old ≤ vec_capacity texts.new }
     ensures stored { R.Roll.bottom roll.new ≡ stored (R.Roll.layers roll.old) (R.Roll.bottom roll.old) (appends (heard call.now)) }
     ensures floors { R.Roll.layers roll.new ≡ R.Roll.layers roll.old }
-    ensures bytes { R.Roll.image roll.new ≡ image_by R.Roll.put (R.Roll.layers roll.old) (R.Roll.bottom roll.old) (R.Roll.image roll.old) (appends (heard call.now)) }
+    ensures bytes { R.Roll.image roll.new ≡ image_by R.Roll.writes (R.Roll.layers roll.old) (R.Roll.bottom roll.old) (R.Roll.image roll.old) (appends (heard call.now)) }
 {
     match call {
         Call::Append(text) => Answer::Appended(roll.append(text)),
@@ -64,7 +64,7 @@ pub fn work<R: Roll>(
         (λ _. Worked (R.Roll.layers roll.old) (R.Roll.bottom roll.old) (R.Roll.bottom roll.new) (R.Roll.meaning roll.new) (all_heard calls.now) answers.new.items texts.new.items)
         (λ _. (roll.new ≡ roll.old) × (answers.new.items ≡ answers.old.items) × (texts.new.items ≡ texts.old.items)) }
     ensures floors { R.Roll.layers roll.new ≡ R.Roll.layers roll.old }
-    ensures bytes { OnOk result (R.Roll.image roll.new ≡ image_after_all R.Roll.put (R.Roll.layers roll.old) (R.Roll.bottom roll.old) (R.Roll.image roll.old) (all_heard calls.now)) }
+    ensures bytes { OnOk result (R.Roll.image roll.new ≡ image_after_all R.Roll.writes (R.Roll.layers roll.old) (R.Roll.bottom roll.old) (R.Roll.image roll.old) (all_heard calls.now)) }
     ensures room { vec_len answers.old + length calls.now ≤ vec_capacity answers.old → vec_len texts.old + 4096 * length calls.now ≤ vec_capacity texts.old → is_ok result ≡ true }
 {
     let Some(room) = calls.len().checked_mul(4096) else {

@@ -80,13 +80,17 @@ impl Roll for Tape {
 
     ghost image = { λ s. s.memory.items };
 
-    ghost put = { tape_put };
+    ghost put = { λ s t. tape_put (tape s.memory.items) s.memory.items t };
+
+    ghost writes = { tape_put };
 
     ghost stands = { λ s. refl };
 
     ghost lawful = { λ s. tape_lawful s.memory.items };
 
     ghost lawful_top = { λ s. tape_lawful s.memory.items };
+
+    ghost puts = { λ s t. refl };
 
     fn name(&self) -> u32 {
         match self.extent {

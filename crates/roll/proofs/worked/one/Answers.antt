@@ -12,7 +12,7 @@ returns-in-Append g c =
     let answer = c.append.ensures.answer ∙ ap (λ m. append_answer m t) (g.R.Roll.stands roll) in
     let bottom : Meaning = g.R.Roll.bottom roll in
     let image : List ℕ = g.R.Roll.image roll in
-    let new : List ℕ = g.R.Roll.put bottom image (sealed (g.R.Roll.layers roll) bottom (count bottom) t) in
+    let new : List ℕ = g.R.Roll.writes bottom image (sealed (g.R.Roll.layers roll) bottom (count bottom) t) in
     let given = ap (λ x. appends (heard x)) c.in-Append.is in
     record {
       result = search rules;
@@ -22,6 +22,7 @@ returns-in-Append g c =
       stored = search rules;
       floors = search rules;
       bytes =
-          c.append.ensures.bytes ∙ ap (λ r. image_after r new image) answer
-          ∙ ap (image_by g.R.Roll.put (g.R.Roll.layers roll) bottom image) (sym given);
+          c.append.ensures.bytes ∙ ap (λ n. image_after c.append.result n image) (g.R.Roll.puts roll t)
+          ∙ ap (λ r. image_after r new image) answer
+          ∙ ap (image_by g.R.Roll.writes (g.R.Roll.layers roll) bottom image) (sym given);
     }

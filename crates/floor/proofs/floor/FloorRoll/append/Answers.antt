@@ -76,6 +76,7 @@ returns g c =
     = ap (take (c.unwrap-n.result - 0)) c.seal.ensures.out ∙ seal_written l.key n t (replicate 4096 0) c.byte.result twelve short whole c.unwrap-n.result k
     ∙ ap (λ x. seal l.key x (c.byte.result ∷ []) t) c.nonce-nonce.ensures
     ∙ sealing l m _ _ _ _ t c.name.ensures c.floor-floor.ensures c.count-entry.ensures c.byte.ensures in
+    let stored : List ℕ = take (c.unwrap-n.result - 0) c.seal.new.out in
     let down = ap (sealed ls b (count b)) q ∙ handed_down l m ls b t (g.R.Roll.stands s.below) in
     let e = c.append.ensures in
     let answer = e.answer ∙ ap (append_answer m) q ∙ answer_below l m t h in
@@ -86,6 +87,8 @@ returns g c =
           ∙ raised-append l m t;
       stored = e.stored ∙ ap (append_after b) down;
       floors = ap₂ (λ x ls. layer x l.kind ∷ ls) c.seal.ensures.same e.floors;
-      bytes = e.bytes ∙ ap (λ x. image_after c.append.result (g.R.Roll.put b image x) image) down;
+      bytes =
+          e.bytes ∙ ap (λ n. image_after c.append.result n image) (g.R.Roll.puts s.below stored)
+          ∙ ap (λ x. image_after c.append.result (g.R.Roll.writes b image x) image) down;
       refused = λ p. not_refused (raised l m) t _ h answer p;
     }

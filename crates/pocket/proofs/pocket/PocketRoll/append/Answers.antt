@@ -45,16 +45,13 @@ invariant_of-self c =
     let s = c.start-at.ensures in
     let n = c.paged.ensures in
     let row = bounds-self-self c in
-    let w = copied p.bytes t c.copy_from_slice.new.self c.start-at.result _ refl c.copy_from_slice.ensures.after ∙ ap (λ x. written x t p.bytes) s in (
-      omega (arith, row),
-      (
-        length-set p.lengths p.count (length t) ∙ p.rows,
-        (
-          ap length w ∙ written_length (paged_all ns) t p.bytes (omega (arith, c.if-at-paged.false)) ∙ p.whole,
-          (omega (arith, c.if-at-paged.false, put_pages p.lengths p.count (length t) (omega arith)), tt),
-        ),
-      ),
-    )
+    let w = copied p.bytes t c.copy_from_slice.new.self c.start-at.result _ refl c.copy_from_slice.ensures.after ∙ ap (λ x. written x t p.bytes) s in
+    record {
+      few = omega (arith, row);
+      rows = length-set p.lengths p.count (length t) ∙ p.rows;
+      whole = ap length w ∙ written_length (paged_all ns) t p.bytes (omega (arith, c.if-at-paged.false)) ∙ p.whole;
+      fits = omega (arith, c.if-at-paged.false, put_pages p.lengths p.count (length t) (omega arith));
+    }
 
 pub returns : goal.returns
 returns c =
@@ -72,4 +69,4 @@ returns c =
     let w = copied p.bytes t c.copy_from_slice.new.self c.start-at.result _ refl c.copy_from_slice.ensures.after ∙ ap (λ x. written x t p.bytes) s in
     let l = take_more_set p.lengths p.count (length t) (omega arith) in
     let grew = ap₂ (pocket p.name) w l ∙ sym (pocket_after p.name p.bytes ns t p.whole c.if-len.false paid few) in
-    record { answer = sym e; after = grew; stored = grew; floors = refl; bytes = w ∙ ap (λ x. written x t p.bytes) (omega (arith, p.fits)); refused = λ z. absurd (both_ways true z refl) }
+    record { answer = sym e; after = grew; stored = grew; floors = refl; bytes = w; refused = λ z. absurd (both_ways true z refl) }

@@ -59,7 +59,7 @@ write_entry-requires c =
     let s = c.args.self.now in
     let memory : List ℕ = vec_items s.memory in
     let o = opened_in_order memory _ s.known _ c.in-Some.is in
-    let n = ap length c.deref-mut.ensures.value in
+    let n = ap length c.deref_mut.ensures.value in
     let x = ap (λ x. x.count) o.1 in
     let y = ap (λ x. x.end) o.1 in
     let space = ap (λ m. m.space) (tape_is memory o.0) in
@@ -77,8 +77,8 @@ invariant_of-self c =
     let x = c.in-Some.extent in
     let o = opened_in_order memory _ s.known x c.in-Some.is in
     let cheap : length t + 4 ≤ (tape memory).space = omega (arith, c.space.ensures, c.if-space-len.false) in
-    let long : length c.write_entry.new.memory ≡ s.memory.len = omega (arith, c.write_entry.auto.memory, c.deref-mut.ensures.len) in
-    let wrote = with_items_is s.memory _ long ∙ c.write_entry.ensures.after ∙ ap (λ m. entry_put x.count x.end m t) c.deref-mut.ensures.value in
+    let long : length c.write_entry.new.memory ≡ s.memory.len = omega (arith, c.write_entry.auto.memory, c.deref_mut.ensures.len) in
+    let wrote = with_items_is s.memory _ long ∙ c.write_entry.ensures.after ∙ ap (λ m. entry_put x.count x.end m t) c.deref_mut.ensures.value in
     (append_judged memory t x o.0 o.1 c.if-len.false c.if-extent-ge-MOST.false cheap _ wrote _ c.write_entry.ensures.extent, tt)
 
 pub returns : goal.returns
@@ -89,8 +89,8 @@ returns c =
     let x = c.in-Some.extent in
     let o = opened_in_order memory _ s.known x c.in-Some.is in
     let cheap : length t + 4 ≤ (tape memory).space = omega (arith, c.space.ensures, c.if-space-len.false) in
-    let long : length c.write_entry.new.memory ≡ s.memory.len = omega (arith, c.write_entry.auto.memory, c.deref-mut.ensures.len) in
-    let wrote = with_items_is s.memory _ long ∙ c.write_entry.ensures.after ∙ ap (λ m. entry_put x.count x.end m t) c.deref-mut.ensures.value in
+    let long : length c.write_entry.new.memory ≡ s.memory.len = omega (arith, c.write_entry.auto.memory, c.deref_mut.ensures.len) in
+    let wrote = with_items_is s.memory _ long ∙ c.write_entry.ensures.after ∙ ap (λ m. entry_put x.count x.end m t) c.deref_mut.ensures.value in
     let e = append_taken memory t x o.0 o.1 c.if-len.false c.if-extent-ge-MOST.false cheap _ wrote in
     let grew = append_means memory t x o.0 o.1 c.if-len.false c.if-extent-ge-MOST.false cheap _ wrote in
     let put = append_put memory t x o.0 o.1 c.if-len.false c.if-extent-ge-MOST.false cheap _ wrote in
