@@ -1,8 +1,8 @@
 -- A pocket keeps the laws of a roll. (Proofs, which the pocket gives as ghost members.)
-use Rattle.std.specs.Prelude.{◌≡◌, ℕ, suc, ◌+◌, ◌-◌, ◌*◌, ◌<◌, ◌≤◌, List, [], ◌∷◌, length, take, drop, refl}
+use Rattle.std.specs.Prelude.{◌≡◌, ℕ, suc, ◌+◌, ◌<◌, ◌≤◌, List, [], ◌∷◌, length, take, drop, refl}
 use Rattle.std.proofs.Common.{ap, arith, length-take, length-drop}
 use Rattle.std.proofs.lemmas.Bool.{lt-ltb, le-ltb, cond-true, cond-false}
-use Rattle.roll.specs.Roll.{Meaning, count, Lawful, ShortEntries}
+use Rattle.roll.specs.Roll.{Lawful, ShortEntries}
 use Rattle.roll.specs.Memory.{written}
 use Rattle.pocket.specs.Pocket.{paged, paged_all, entries_at, pocket_charge, pocket, pocket_put, pocket_writes}
 

@@ -1,5 +1,5 @@
 -- A blanked memory is an empty tape.
-use Rattle.std.proofs.Common.{◌≡◌, ℕ, ◌-◌, ◌^◌, ◌<◌, ◌≤◌, List, [], ◌++◌, length, sym, refl, ap, ◌∙◌, ap₂, arith}
+use Rattle.std.proofs.Common.{◌≡◌, ℕ, ◌^◌, ◌<◌, ◌≤◌, List, [], ◌++◌, length, refl, ap, ◌∙◌, ap₂, arith}
 use Rattle.engine.specs.Bytes.{bytes}
 use Rattle.roll.specs.Memory.{written}
 use Rattle.roll.proofs.Memories.{written_length, written_both}

@@ -1,17 +1,17 @@
 -- The memory of a tape through the life of a pile that stands on it.
-use Rattle.std.proofs.Common.{◌≡◌, ℕ, ◌+◌, ◌-◌, ◌*◌, ◌<◌, ◌≤◌, false, List, [], ◌∷◌, length, Some, None, Ok, Err, Option, Result, sym, refl, ap, ◌∙◌, subst, ap₂, subst₂, ⊎_elim, arith}
+use Rattle.std.proofs.Common.{◌≡◌, ℕ, ◌+◌, ◌-◌, ◌*◌, ◌<◌, ◌≤◌, List, [], ◌∷◌, length, Some, None, Ok, Err, Option, Result, sym, refl, ap, ◌∙◌, subst, ap₂, ⊎_elim, arith}
 use Rattle.std.proofs.lemmas.Bool.{cases_Bool, cases_lt}
 use Rattle.refusal.specs.declared.fault.Fault.{Fault}
-use Rattle.roll.specs.Roll.{Meaning, text, count, entry, append_answer, append_after, image_after}
+use Rattle.roll.specs.Roll.{Meaning, text, count, entry, append_answer, image_after}
 use Rattle.roll.specs.Floor.{Layer, piled, sealed}
-use Rattle.roll.specs.Life.{Call, Each, accepted, appends, stored, after, answers, image_by, image_after_all}
+use Rattle.roll.specs.Life.{Call, appends, stored, after, image_by, image_after_all}
 use Rattle.roll.proofs.Rolls.{Takes, taken, tried, after_is, none_some}
 use Rattle.roll.proofs.Piles.{takes_down, refused_down}
 use Rattle.roll.proofs.Stamps.{each_map}
 use Rattle.roll.proofs.Whole.{life}
 use Rattle.tape.specs.Tape.{count_of, last_end, InOrder, in_order, between, nothing, tape, tape_put}
 use Rattle.tape.specs.TapeLaws.{ordered, tape_lawful}
-use Rattle.tape.specs.TapeLife.{TapeLife, TapeLives, TapeRests}
+use Rattle.tape.specs.TapeLife.{TapeLives, TapeRests}
 use Rattle.tape.proofs.Tapes.{tape_is, tape-nothing, tape_count, tape_at, tape_past, charge_under, put_length, put_ordered, put_means}
 
 -- what a tape in order takes, in the terms of its memory

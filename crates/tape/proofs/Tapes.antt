@@ -1,5 +1,5 @@
 -- Tapes in order: where their entries stand, and what an append makes of them.
-use Rattle.std.proofs.Common.{◌≡◌, ℕ, zero, suc, ◌+◌, ◌-◌, ◌*◌, ◌^◌, ◌<◌, ◌≤◌, true, false, ◌&&◌, ltb, List, [], ◌∷◌, ◌++◌, map, length, drop, Some, None, Ok, Err, Option, Result, sym, refl, ap, ◌∙◌, ap₂, ⊎_elim, add_assoc, arith}
+use Rattle.std.proofs.Common.{◌≡◌, ℕ, zero, suc, ◌+◌, ◌-◌, ◌*◌, ◌<◌, ◌≤◌, true, false, ◌&&◌, ltb, List, [], ◌∷◌, ◌++◌, map, length, drop, Some, None, Ok, Err, Option, Result, sym, refl, ap, ◌∙◌, ap₂, ⊎_elim, arith}
 use Rattle.std.specs.List.{range_with_len}
 use Rattle.std.proofs.lemmas.List.FromFn.{length-map-range_with_len, map-range_with_len_more}
 use Rattle.std.proofs.lemmas.Bool.{and_parts, and_cases, both_ways, cases_Bool, cases_lt, cond-true, cond-false, cond_both, ltb-true, ltb-false}
@@ -11,7 +11,7 @@ use Rattle.roll.specs.Memory.{part, written}
 use Rattle.roll.specs.Roll.{Meaning, Entry, text, count, entry, first, fault, append_answer, append_after, grown}
 use Rattle.roll.proofs.Memories.{part_length, written_length, written_there, written_below, written_above}
 use Rattle.roll.proofs.Rolls.{Takes, taken, after_is}
-use Rattle.tape.specs.Tape.{word, name_of, count_of, first_of, size_of, begin_of, end_of, last_end, InOrder, in_order, between, tape_entry, tape_charge, roll_of, ordered_tape, nothing, tape, entry_put, tape_put}
+use Rattle.tape.specs.Tape.{word, name_of, count_of, begin_of, end_of, last_end, InOrder, in_order, between, tape_entry, tape_charge, roll_of, ordered_tape, nothing, tape, entry_put, tape_put}
 use Rattle.tape.specs.Judged.{extent_of, judged, span_of, place_answer}
 use Rattle.tape.specs.TapeLaws.{ordered, charge_is}
 use Rattle.tape.specs.declared.extent.Extent.{Extent}

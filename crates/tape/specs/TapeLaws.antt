@@ -1,11 +1,11 @@
 -- A tape keeps the laws of a roll. (Proofs, which the tape gives as ghost members.)
-use Rattle.std.specs.Prelude.{◌≡◌, ℕ, zero, suc, ◌+◌, ◌-◌, ◌*◌, ◌<◌, ◌≤◌, Bool, true, ◌&&◌, List, map, length, drop, ◌==◌, nat_le, refl}
-use Rattle.std.proofs.Common.{ap, ⊎_elim, arith, length-take}
+use Rattle.std.specs.Prelude.{◌≡◌, ℕ, zero, suc, ◌+◌, ◌-◌, ◌<◌, ◌≤◌, Bool, true, List, map, length, drop, ◌==◌, nat_le, refl}
+use Rattle.std.proofs.Common.{⊎_elim, arith, length-take}
 use Rattle.std.specs.List.{range_with_len}
 use Rattle.std.proofs.lemmas.List.FromFn.{length-map-range_with_len}
 use Rattle.std.proofs.lemmas.Bool.{and_parts, cases_lt, cond_both, cond-true, cond-false, eqb-true, leb-true, lt-ltb, le-ltb}
 use Rattle.roll.specs.Roll.{Lawful, ShortEntries}
-use Rattle.tape.specs.Tape.{size_of, first_of, count_of, begin_of, end_of, last_end, InOrder, every, entry_ordered, tape_length, header_ordered, in_order, tape_entry, tape_charge, ordered_tape, nothing, tape}
+use Rattle.tape.specs.Tape.{size_of, first_of, count_of, begin_of, end_of, InOrder, every, entry_ordered, tape_length, header_ordered, in_order, tape_entry, tape_charge, ordered_tape, nothing, tape}
 
 -- what every number below n passes, each of them passes
 passes : (test : ℕ → Bool) (n i : ℕ) → every test n ≡ true → i < n → test i ≡ true

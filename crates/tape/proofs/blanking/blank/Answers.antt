@@ -1,9 +1,8 @@
-use Rattle.std.proofs.Common.{◌≡◌, ℕ, leb, List, length, sym, ap, ◌∙◌, arith}
+use Rattle.std.proofs.Common.{ℕ, leb, List, length, sym, ap, ◌∙◌, arith}
 use Rattle.std.proofs.lemmas.Bool.{and_parts, cond-true, leb-true}
 use Rattle.engine.specs.Bytes.{bytes}
 use Rattle.roll.specs.Memory.{written}
-use Rattle.tape.specs.Tape.{InOrder, tape}
-use Rattle.tape.specs.Judged.{blank_roll}
+use Rattle.tape.specs.Tape.{tape}
 use Rattle.tape.proofs.Blanks.{header_written, blank_ordered, blank_means}
 use Rattle.tape.proofs.blanking.blank.Goals as goal
 

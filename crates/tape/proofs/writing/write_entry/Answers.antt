@@ -1,4 +1,4 @@
-use Rattle.std.proofs.Common.{◌≡◌, ℕ, ◌+◌, ◌-◌, ◌*◌, List, length, refl, ap, ◌∙◌, ap₂}
+use Rattle.std.proofs.Common.{ℕ, ◌+◌, ◌-◌, ◌*◌, List, length, refl, ap, ◌∙◌}
 use Rattle.engine.specs.Bytes.{bytes}
 use Rattle.roll.specs.Memory.{written}
 use Rattle.roll.proofs.Memories.{copied}

@@ -1,6 +1,6 @@
-use Rattle.std.proofs.Common.{◌≡◌, ℕ, ◌+◌, ◌-◌, ◌≤◌, List, ◌++◌, length, get_or, take, drop, replicate, Ok, sym, refl, ap, ◌∙◌, ap₂, arith}
+use Rattle.std.proofs.Common.{◌++◌, length, get_or, take, drop, Ok, sym, refl, ap, ◌∙◌, arith}
 use Rattle.roll.specs.Memory.{part}
-use Rattle.pocket.specs.Pocket.{paged, paged_all, pocket}
+use Rattle.pocket.specs.Pocket.{pocket}
 use Rattle.roll.proofs.Memories.{read-part}
 use Rattle.roll.proofs.Reading.{read_missing, read_long, read_given}
 use Rattle.pocket.proofs.Pockets.{pocket_entry, pocket_no_entry, stored-length, stored_within, paged_within}

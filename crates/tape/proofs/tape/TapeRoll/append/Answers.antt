@@ -79,7 +79,7 @@ invariant_of-self c =
     let cheap : length t + 4 ≤ (tape memory).space = omega (arith, c.space.ensures, c.if-space-len.false) in
     let long : length c.write_entry.new.memory ≡ s.memory.len = omega (arith, c.write_entry.auto.memory, c.deref_mut.ensures.len) in
     let wrote = with_items_is s.memory _ long ∙ c.write_entry.ensures.after ∙ ap (λ m. entry_put x.count x.end m t) c.deref_mut.ensures.value in
-    (append_judged memory t x o.0 o.1 c.if-len.false c.if-extent-ge-MOST.false cheap _ wrote _ c.write_entry.ensures.extent, tt)
+    record { known = append_judged memory t x o.0 o.1 c.if-len.false c.if-extent-ge-MOST.false cheap _ wrote _ c.write_entry.ensures.extent }
 
 pub returns : goal.returns
 returns c =

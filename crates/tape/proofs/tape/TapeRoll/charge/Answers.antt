@@ -1,4 +1,4 @@
-use Rattle.std.proofs.Common.{vec_items, sym, ap, ◌∙◌, arith}
+use Rattle.std.proofs.Common.{vec_items, sym, arith}
 use Rattle.tape.specs.TapeLaws.{tape_lawful}
 use Rattle.tape.proofs.Tapes.{charge_under, bound-most}
 use Rattle.tape.proofs.tape.TapeRoll.charge.Goals as goal

@@ -1,4 +1,4 @@
-use Rattle.std.proofs.Common.{◌≡◌, ℕ, List, Ok, Err, vec_items, sym, ap, ◌∙◌, arith}
+use Rattle.std.proofs.Common.{ℕ, List, Ok, Err, vec_items, sym, ap, ◌∙◌}
 use Rattle.std.proofs.lemmas.Result.{err_from_is_err_and}
 use Rattle.roll.proofs.Reading.{length_missing, length_given}
 use Rattle.tape.specs.Tape.{tape}

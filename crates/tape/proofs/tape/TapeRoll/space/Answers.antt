@@ -1,4 +1,4 @@
-use Rattle.std.proofs.Common.{ℕ, ◌+◌, ◌-◌, ◌*◌, ◌≤◌, List, vec_items, sym, ap, ◌∙◌, ap₂, arith}
+use Rattle.std.proofs.Common.{ℕ, List, vec_items, sym, ap, arith}
 use Rattle.tape.proofs.Tapes.{tape_is, opened_in_order, opened_nothing}
 use Rattle.tape.proofs.tape.TapeRoll.space.Goals as goal
 
