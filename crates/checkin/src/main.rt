@@ -41,7 +41,7 @@ const LABEL: Label = Label {
 fn read_file(rt: &HostRuntime, file: &str) -> anyhow::Result<Vec<u8>> {
     match fs::read(rt, file) {
         Ok(bytes) => Ok(bytes),
-        Err(error) => Err(failure(rt.alloc(), file, error)),
+        Err(error) => Err(failure(file, error)),
     }
 }
 
@@ -50,7 +50,7 @@ fn read_key_file(rt: &HostRuntime) -> anyhow::Result<Key> {
     let bytes = read_file(rt, KEY_FILE)?;
     match read_key(rt.alloc(), &bytes) {
         Ok(key) => Ok(key),
-        Err(fault) => Err(failure(rt.alloc(), KEY_FILE, fault)),
+        Err(fault) => Err(failure(KEY_FILE, fault)),
     }
 }
 
@@ -60,10 +60,10 @@ fn check_in(rt: &HostRuntime, key: Key, scene: &[u8]) -> anyhow::Result<()> {
     let mut sealed = vec![in heap; 0u8; scene.len().saturating_add(8)]?;
     let mut engine = WordEngine::new(key);
     if let Err(fault) = LABEL.seal(&mut engine, scene, &mut sealed) {
-        return Err(failure(heap, SEALED_FILE, fault));
+        return Err(failure(SEALED_FILE, fault));
     }
     if let Err(error) = fs::write(rt, SEALED_FILE, sealed.as_slice()) {
-        return Err(failure(heap, SEALED_FILE, error));
+        return Err(failure(SEALED_FILE, error));
     }
     let len = sealed.len();
     println!(rt; "{SEALED_FILE}: sealed with the word engine and written, {len} bytes")?;
@@ -82,10 +82,10 @@ fn check_out(rt: &HostRuntime, key: Key, scene: &[u8], sealed: &[u8]) -> anyhow:
     let mut engine = BitEngine::new(key);
     let len = match LABEL.open(&mut engine, sealed, &mut opened) {
         Ok(len) => len,
-        Err(fault) => return Err(failure(heap, SEALED_FILE, fault)),
+        Err(fault) => return Err(failure(SEALED_FILE, fault)),
     };
     println!(rt; "{SEALED_FILE}: opened with the bit engine, {len} bytes")?;
-    if len != scene.len() || opened != scene {
+    if len != scene.len() || opened.as_slice() != scene {
         return Err(anyhow!("the sealed file does not open to the scene"));
     }
     println!(rt; "{SEALED_FILE}: what it holds is {SCENE_FILE}, byte for byte")?;

@@ -66,7 +66,7 @@ pub(crate) fn work_pocket(rt: &HostRuntime, sealed: &[u8]) -> anyhow::Result<()>
     for (call, answer) in calls.iter().zip(answers.iter()) {
         print_answer(rt, call, answer)?;
     }
-    if texts != sealed {
+    if texts.as_slice() != sealed {
         return Err(anyhow!("the pocket does not give back the sealed file"));
     }
     println!(rt; "pocket: what was read is the sealed file, byte for byte")?;

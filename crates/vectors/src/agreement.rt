@@ -11,7 +11,7 @@ fn seals<E: Engine>(engine: &mut E, case: &Case, out: &mut [u8]) -> bool
     ensures same { E.key engine.new ≡ E.key engine.old }
 {
     match tinyjambu::seal(engine, &case.nonce, &case.ad, &case.text, out) {
-        Ok(len) => len == out.len() && case.sealed == &*out,
+        Ok(len) => len == out.len() && case.sealed.as_slice() == &*out,
         Err(_) => false,
     }
 }
@@ -22,7 +22,7 @@ fn opens<E: Engine>(engine: &mut E, case: &Case, out: &mut [u8]) -> bool
     ensures same { E.key engine.new ≡ E.key engine.old }
 {
     match tinyjambu::open(engine, &case.nonce, &case.ad, &case.sealed, out) {
-        Ok(len) => len == out.len() && case.text == &*out,
+        Ok(len) => len == out.len() && case.text.as_slice() == &*out,
         Err(_) => false,
     }
 }

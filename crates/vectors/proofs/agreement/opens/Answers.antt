@@ -1,4 +1,4 @@
-use Rattle.std.proofs.Common.{sym, ◌∙◌}
+use Rattle.std.proofs.Common.{◌≡◌, sym, ◌∙◌}
 use Rattle.std.proofs.lemmas.Slice.Eq.{slice_eq-Decides}
 use Rattle.tinyjambu.specs.Mode.{opened}
 use Rattle.vectors.proofs.Wholes.{opens_whole}
@@ -11,6 +11,6 @@ returns-then-len-out g c =
     let text = opened (g.E.Engine.key c.args.engine.now) c.deref.result.now c.deref-2.result.now c.deref-3.result.now in
     let made = opens_whole _ text _ _ _ (sym c.open.ensures.answer ∙ c.in-Ok.is) c.if-len-out.true c.open.ensures.out in
     record {
-      meant = λ h. let e = (slice_eq-Decides Decides-eqb _ _ _ c.eq.ensures).0 h in cc (made, c.deref.ensures.value, c.deref-2.ensures.value, c.deref-3.ensures.value);
+      meant = λ h. let e : c.as_slice.result.now ≡ c.open.new.out = (slice_eq-Decides Decides-eqb _ _ _ c.eq.ensures).0 h in cc (e, made, c.deref.ensures.value, c.deref-2.ensures.value, c.deref-3.ensures.value, c.as_slice.ensures.value);
       same = c.open.ensures.same;
     }
