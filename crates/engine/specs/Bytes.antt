@@ -1,7 +1,7 @@
 -- Bytes as one number, and words of 32 bits as one number; the least comes first in both.
 use Rattle.std.specs.Prelude.{◌≡◌, ℕ, zero, suc, ◌+◌, ◌*◌, ◌/◌, ◌%◌, ◌^◌, ◌<◌, List, [], ◌∷◌, ◌++◌, length, refl}
 use Rattle.std.proofs.Common.{arith}
-use Rattle.std.specs.List.{AllByRecursion as All}
+use Rattle.std.specs.List.{AllByRecursion}
 
 -- bytes as one number, and a number as so many bytes
 abbrev pub number : List ℕ → ℕ
@@ -32,7 +32,7 @@ length-word_bytes (w ∷ ws) = omega (arith, length-word_bytes ws)
 
 -- each is a byte; each is a word
 abbrev pub AllBytes : List ℕ → Type 0
-AllBytes bs = All (λ b. b < 256) bs
+AllBytes bs = AllByRecursion (λ b. b < 256) bs
 
 abbrev pub AllWords : List ℕ → Type 0
-AllWords ws = All (λ w. w < 2 ^ 32) ws
+AllWords ws = AllByRecursion (λ w. w < 2 ^ 32) ws

@@ -1,6 +1,6 @@
 #![tactic(auto)]
 
-// The calls for a C host, on byte slices: each passes as a pointer and a length. include/vurshade.h documents them for C.
+// The calls for a C host, on byte slices. The crate `host_c` exports them for C.
 ghost use Rattle.std.specs.Prelude.{◌≡◌, ◌^◌, ◌<◌, IfOk};
 ghost use Rattle.host.specs.Host.{signed, host_seal_answer, host_seal_out, host_open_answer, host_open_out};
 
@@ -55,8 +55,7 @@ fn open_under(
 }
 
 // Seals a text with its associated data under a key and a nonce.
-#[unsafe(no_mangle)]
-pub extern "C" fn vurshade_seal(
+pub fn vurshade_seal(
     key: &[u8],
     nonce: &[u8],
     ad: &[u8],
@@ -70,8 +69,7 @@ pub extern "C" fn vurshade_seal(
 }
 
 // Opens sealed bytes with their associated data under a key and a nonce.
-#[unsafe(no_mangle)]
-pub extern "C" fn vurshade_open(
+pub fn vurshade_open(
     key: &[u8],
     nonce: &[u8],
     ad: &[u8],
