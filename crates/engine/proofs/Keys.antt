@@ -12,17 +12,17 @@ use Rattle.engine.proofs.Bitwise.{bit-mod, bit-shr}
 use Rattle.engine.proofs.Joined.{bytes_at, bytes-number, word_bytes-append}
 
 -- bit j of the word at p is bit p * 32 + j of the bytes
-word-bit : (ws : List ℕ) (p j : ℕ) → p < length ws → j < 32 → key_bit (word_bytes ws) (p * 32 + j) ≡ bit (get_or ws p 0) j
-word-bit [] p j h l = absurd (omega arith)
-word-bit (w ∷ ws) zero j h l =
+word_bit : (ws : List ℕ) (p j : ℕ) → p < length ws → j < 32 → key_bit (word_bytes ws) (p * 32 + j) ≡ bit (get_or ws p 0) j
+word_bit [] p j h l = absurd (omega arith)
+word_bit (w ∷ ws) zero j h l =
     let q : j / 8 < 4 = omega arith in
     let e = get_or_append_left (bytes 4 w) (word_bytes ws) 0 (j / 8) q ∙ bytes_at 4 w (j / 8) q in
     ap (key_bit (word_bytes (w ∷ ws))) (zero-add j) ∙ ap (λ x. bit x (j % 8)) e ∙ bit-mod (w / 2 ^ (8 * (j / 8))) 8 (j % 8) (omega arith)
     ∙ bit-shr w (8 * (j / 8)) (j % 8) ∙ ap (bit w) (div-add-mod j 8)
-word-bit (w ∷ ws) (suc p) j h l =
+word_bit (w ∷ ws) (suc p) j h l =
     let q : (suc p * 32 + j) / 8 ≡ suc (suc (suc (suc ((p * 32 + j) / 8)))) = omega arith in
     let r : (suc p * 32 + j) % 8 ≡ (p * 32 + j) % 8 = omega arith in
-    ap₂ (λ x y. bit (get_or (word_bytes (w ∷ ws)) x 0) y) q r ∙ word-bit ws p j (omega arith) l
+    ap₂ (λ x y. bit (get_or (word_bytes (w ∷ ws)) x 0) y) q r ∙ word_bit ws p j (omega arith) l
 
 -- round q * 32 + j takes bit j of word q, where the first u of ws are gone through round and round
 pub key_at : (ws : List ℕ) (u q j : ℕ) → u ≤ length ws → 0 < u → j < 32
@@ -34,7 +34,7 @@ key_at ws u q j h o l =
     let p = mod-lt q o in
     let n : 8 * length (key_of ws u) ≡ u * 32 = omega (arith, length-word_bytes (take u ws)) in
     rw (n, mod-mul (q * 32 + j) {c = 32} o (omega arith), e, f)
-    (word-bit (take u ws) (q % u) j (rw m p) l ∙ ap (λ x. bit x j) (get_or-take u ws (q % u) 0 p))
+    (word_bit (take u ws) (q % u) j (rw m p) l ∙ ap (λ x. bit x j) (get_or-take u ws (q % u) 0 p))
 
 -- the rounds of a long run by the words in use
 pub long_by_words : (ws : List ℕ) (u : ℕ) → u ≤ length ws → 768 + 64 * u ≡ long_rounds (key_of ws u)

@@ -27,8 +27,8 @@ abbrev pub fill_after : List ℕ → List ℕ → List ℕ
 fill_after key bytes = cond (is_key_size (length bytes)) bytes key
 
 -- words in use that are 4, 6 or 8 make such a key
-pub key_of-sized : (ws : List ℕ) (u : ℕ) → 4 ≤ u → u ≤ 8 → u % 2 ≡ 0 → u ≤ length ws → KeySize (key_of ws u)
-key_of-sized ws u h l e m =
+pub key_of_sized : (ws : List ℕ) (u : ℕ) → 4 ≤ u → u ≤ 8 → u % 2 ≡ 0 → u ≤ length ws → KeySize (key_of ws u)
+key_of_sized ws u h l e m =
     let n = length-word_bytes (take u ws) in
     let k = length-take-le u ws m in
     record { least = omega arith; most = omega arith; eights = omega arith }

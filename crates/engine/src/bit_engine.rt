@@ -1,6 +1,6 @@
 ghost use Rattle.std.specs.Prelude.{◌≡◌, ◌+◌, ◌*◌, ◌/◌, ◌%◌, ◌^◌};
 ghost use Rattle.engine.specs.Permutation.{rounds, taps, bit};
-ghost use Rattle.engine.specs.Keys.{key_of, key_of-sized};
+ghost use Rattle.engine.specs.Keys.{key_of, key_of_sized};
 
 use crate::engine::Engine;
 use crate::key::Key;
@@ -46,7 +46,7 @@ fn bit_round(s: u128, k: u32) -> u128
 impl Engine for BitEngine {
     ghost key = { λ s. key_of s.key.words s.key.used };
 
-    ghost sized = { λ s. key_of-sized s.key.words s.key.used s.key.least s.key.most s.key.even s.key.stored };
+    ghost sized = { λ s. key_of_sized s.key.words s.key.used s.key.least s.key.most s.key.even s.key.stored };
 
     fn short_run(&mut self, state: [u32; 4]) -> [u32; 4] {
         as_words(self.run(as_number(state), 640))

@@ -1,7 +1,7 @@
 ghost use Rattle.std.specs.Prelude.{◌≡◌, ◌+◌, ◌*◌, ◌/◌, ◌%◌, ◌^◌, ◌<◌, ◌≤◌, [], ◌∷◌, length};
 ghost use Rattle.engine.specs.Permutation.{rounds, long_rounds};
 ghost use Rattle.engine.specs.Bytes.{joined};
-ghost use Rattle.engine.specs.Keys.{key_of, key_of-sized};
+ghost use Rattle.engine.specs.Keys.{key_of, key_of_sized};
 ghost use Rattle.engine.specs.Turns.{Brings, flipped, flip, flipped-stored};
 
 use crate::engine::Engine;
@@ -90,7 +90,7 @@ fn mix(a: u32, b: u32, c: u32, d: u32, k: u32) -> u32
 impl Engine for WordEngine {
     ghost key = { λ s. key_of (flipped s.words) s.used };
 
-    ghost sized = { λ s. key_of-sized (flipped s.words) s.used s.least s.most s.even (flipped-stored s.words s.used s.stored) };
+    ghost sized = { λ s. key_of_sized (flipped s.words) s.used s.least s.most s.even (flipped-stored s.words s.used s.stored) };
 
     fn short_run(&mut self, state: [u32; 4]) -> [u32; 4] {
         as_words(self.run(as_number(state), 5))

@@ -17,7 +17,7 @@ use Rattle.roll.specs.Floor.{Layer, nonce, above, seal_at, apply_seal, opened_en
 use Rattle.roll.specs.Laws.{raised_entry-length, raised-count, charge-raised, raised_lawful}
 use Rattle.roll.proofs.Rolls.{Takes, taken, tried, after_is, never, ok_one, said, entries_fit, read_told}
 use Rattle.roll.proofs.Reading.{measured, length_missing, length_given, read_missing, read_long, read_broken, read_given}
-use Rattle.roll.proofs.Piles.{raised_option, entry-raised, takes_below, takes-above, raised-append, piled-count}
+use Rattle.roll.proofs.Piles.{raised_option, entry-raised, takes_below, takes_above, raised-append, piled-count}
 
 -- the name of a floor
 pub name-same : (l : Layer) (m : Meaning) → (raised l m).name ≡ m.name
@@ -58,7 +58,7 @@ charge-same l m n w =
 -- what the bottom takes sealed by every floor, the pile takes
 takes_up : (ls : List Layer) (b : Meaning) (i : ℕ) (t : List ℕ) → Takes b (sealed ls b i t) → Takes (piled ls b) t
 takes_up [] b i t h = h
-takes_up (l ∷ ls) b i t h = takes-above l (piled ls b) (seal_at l (piled ls b) i) t (takes_up ls b i (apply_seal (seal_at l (piled ls b) i) t) h)
+takes_up (l ∷ ls) b i t h = takes_above l (piled ls b) (seal_at l (piled ls b) i) t (takes_up ls b i (apply_seal (seal_at l (piled ls b) i) t) h)
 
 -- an append of t at the floor l, on a roll m that is the pile ls on b
 module _ (l : Layer) (m : Meaning) (ls : List Layer) (b : Meaning) (t : List ℕ) (p : m ≡ piled ls b) where

@@ -55,13 +55,7 @@ fn open_under(
 }
 
 // Seals a text with its associated data under a key and a nonce.
-pub fn vurshade_seal(
-    key: &[u8],
-    nonce: &[u8],
-    ad: &[u8],
-    text: &[u8],
-    out: &mut [u8],
-) -> i64
+pub fn vurshade_seal(key: &[u8], nonce: &[u8], ad: &[u8], text: &[u8], out: &mut [u8]) -> i64
     ensures answer { result ≡ signed (host_seal_answer key.now nonce.now ad.now text.now out.old) }
     ensures out { out.new ≡ host_seal_out key.now nonce.now ad.now text.now out.old }
 {
@@ -69,13 +63,7 @@ pub fn vurshade_seal(
 }
 
 // Opens sealed bytes with their associated data under a key and a nonce.
-pub fn vurshade_open(
-    key: &[u8],
-    nonce: &[u8],
-    ad: &[u8],
-    sealed: &[u8],
-    out: &mut [u8],
-) -> i64
+pub fn vurshade_open(key: &[u8], nonce: &[u8], ad: &[u8], sealed: &[u8], out: &mut [u8]) -> i64
     ensures answer { result ≡ signed (host_open_answer key.now nonce.now ad.now sealed.now out.old) }
     ensures out { out.new ≡ host_open_out key.now nonce.now ad.now sealed.now out.old }
 {

@@ -86,9 +86,9 @@ takes_below l m s t h =
     record { fits = omega (arith, p, h.fits); room = omega (arith, h.room, raised-count l m); paid = rw p (omega (arith, q, h.paid)) }
 
 -- what the roll below takes sealed, the floor takes
-pub takes-above : (l : Layer) (m : Meaning) (s : Seal) (t : List ℕ) → Takes m (apply_seal s t) → Takes (raised l m) t
+pub takes_above : (l : Layer) (m : Meaning) (s : Seal) (t : List ℕ) → Takes m (apply_seal s t) → Takes (raised l m) t
 unfolding raised
-takes-above l m s t h =
+takes_above l m s t h =
     let p = seal-length s.key s.nonce (s.kind ∷ []) t in
     let fits : length t < m.bound - 8 = omega (arith, p, h.fits) in
     let q = charge-raised l m (length t) fits in
@@ -122,7 +122,7 @@ raised-append l m t =
     c = apply_seal s t
 
     refused : (f : Fault) × (append_answer (raised l m) t ≡ Err f) → append_after m c ≡ m
-    refused h = ⊎_elim (λ k. never _ _ _ h.1 (taken (raised l m) t (takes-above l m s t k))) (λ k. after_is m c _ k.1) (tried m c)
+    refused h = ⊎_elim (λ k. never _ _ _ h.1 (taken (raised l m) t (takes_above l m s t k))) (λ k. after_is m c _ k.1) (tried m c)
 
 -- the laws carry up
 pub piled_lawful : (ls : List Layer) (b : Meaning) → Lawful b → Lawful (piled ls b)
@@ -157,7 +157,7 @@ takes_down (l ∷ ls) b i t h = takes_down ls b i _ (takes_below l (piled ls b) 
 -- and what the bottom takes so, the top takes
 pub takes_up : (ls : List Layer) (b : Meaning) (i : ℕ) (t : List ℕ) → Takes b (sealed ls b i t) → Takes (piled ls b) t
 takes_up [] b i t h = h
-takes_up (l ∷ ls) b i t h = takes-above l (piled ls b) (seal_at l (piled ls b) i) t (takes_up ls b i _ h)
+takes_up (l ∷ ls) b i t h = takes_above l (piled ls b) (seal_at l (piled ls b) i) t (takes_up ls b i _ h)
 
 -- what the top refuses, the bottom refuses too
 pub refused_down : (ls : List Layer) (b : Meaning) (i : ℕ) (t : List ℕ) (f : Fault) → append_answer (piled ls b) t ≡ Err f → append_after b (sealed ls b i t) ≡ b

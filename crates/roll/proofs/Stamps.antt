@@ -49,8 +49,8 @@ nonce-entry : (n f i m g j : ℕ) → i < 2 ^ 32 → j < 2 ^ 32 → nonce n f i 
 nonce-entry n f i m g j hi hj e = sym (number-bytes i hi) ∙ (ap (λ bs. number (drop 8 bs)) e ∙ number-bytes j hj)
 
 -- sealings of one entry by floors below, and of entries before and after, differ
-floors-differ : (l : Layer) (m : Meaning) (i top low high : ℕ) (u : Seal) → top < above m → above m < 2 ^ 32 → Stamp top low high u → Pair (seal_at l m i) u → ⊥
-floors-differ l m i top low high u h k w p = omega (arith, h, w.under, nonce-floor _ _ _ _ _ _ k (omega (arith, w.under)) (p.1 ∙ w.is))
+floors_differ : (l : Layer) (m : Meaning) (i top low high : ℕ) (u : Seal) → top < above m → above m < 2 ^ 32 → Stamp top low high u → Pair (seal_at l m i) u → ⊥
+floors_differ l m i top low high u h k w p = omega (arith, h, w.under, nonce-floor _ _ _ _ _ _ k (omega (arith, w.under)) (p.1 ∙ w.is))
 
 -- sealings of different entries differ
 entries-differ : (top low i high : ℕ) (s u : Seal) → high ≤ 2 ^ 32 → i ≤ high → Stamp top low i s → Stamp top i high u → Pair s u → ⊥
@@ -73,7 +73,7 @@ module _ (b : Meaning) (lawful : Lawful b) where
   seals_differ [] i h = tt
   seals_differ (l ∷ ls) i h =
       let w = (piled_lawful ls b lawful).bounded in (
-        each_map _ _ (seals ls b i) (λ u k. floors-differ l (piled ls b) i _ _ _ u (omega (arith, w)) (omega arith) k) (stamped ls i),
+        each_map _ _ (seals ls b i) (λ u k. floors_differ l (piled ls b) i _ _ _ u (omega (arith, w)) (omega arith) k) (stamped ls i),
         seals_differ ls i (omega arith),
       )
 

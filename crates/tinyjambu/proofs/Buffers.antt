@@ -6,8 +6,8 @@ use Rattle.std.proofs.lemmas.Bool.{cond-false, le-ltb}
 use Rattle.tinyjambu.specs.Answers.{written, longest, message_check}
 
 -- after a write to the first n bytes
-pub written-part : (part bytes out : List ℕ) (n : ℕ) → part ≡ bytes → length part ≡ n → part ++ drop (n - 0) out ≡ written bytes out
-written-part part bytes out n e l =
+pub written_part : (part bytes out : List ℕ) (n : ℕ) → part ≡ bytes → length part ≡ n → part ++ drop (n - 0) out ≡ written bytes out
+written_part part bytes out n e l =
     let m : n - 0 ≡ length bytes = omega (arith, ap length e) in
     ap₂ (λ x k. x ++ drop k out) e m
 

@@ -1,6 +1,6 @@
 use Rattle.std.proofs.Common.{◌+◌, length, sym, ap, ◌∙◌, length-append}
 use Rattle.std.proofs.lemmas.Bool.{cond-false, le-ltb, true≢false}
-use Rattle.tinyjambu.proofs.Buffers.{written-part}
+use Rattle.tinyjambu.proofs.Buffers.{written_part}
 use Rattle.tinyjambu.proofs.session.TextSession.seal.Goals as goal
 
 pub returns : goal.returns
@@ -13,7 +13,7 @@ returns g c =
         took = rw c.crypt.ensures.same (c.crypt.ensures.took nonce ad t h.took);
         counted = ap (λ n. n + length p) h.counted ∙ sym (length-append t p);
       };
-      out = λ _ nonce ad t h. written-part c.crypt.new.out _ out (length p) (c.crypt.ensures.out nonce ad t h.took) c.crypt.ensures.len;
+      out = λ _ nonce ad t h. written_part c.crypt.new.out _ out (length p) (c.crypt.ensures.out nonce ad t h.took) c.crypt.ensures.len;
       same = c.crypt.ensures.same;
       refused = λ e. absurd (true≢false e);
     }
