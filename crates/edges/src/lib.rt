@@ -18,7 +18,7 @@ mod limits;
 #[cfg(test)]
 mod order;
 #[cfg(test)]
-mod pocket;
+mod pocket_edges;
 mod session_use;
 #[cfg(test)]
 mod shown;
