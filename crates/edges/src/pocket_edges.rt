@@ -146,7 +146,7 @@ fn a_read_leaves_what_is_behind_the_entry(rt: HostRuntime) -> Result<(), Fail> {
     answers(&rt, pocket.read(0, &mut out), 0)?;
     assert!(rt; out == [0xaau8; 4]);
     answers(&rt, pocket.read(1, &mut out), 3)?;
-    assert!(rt; &out[0..3] == b"two");
+    assert!(rt; &out[0..3] == b"two".as_slice());
     assert_eq!(rt; out[3], 0xaa);
     Ok(())
 }
