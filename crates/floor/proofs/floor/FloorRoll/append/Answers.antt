@@ -1,4 +1,4 @@
-use Rattle.std.proofs.Common.{◌≡◌, ℕ, ◌-◌, ◌<◌, ◌≤◌, List, [], ◌∷◌, length, take, replicate, is_ok, Err, sym, refl, ap, ◌∙◌, ap₂}
+use Rattle.std.proofs.Common.{◌≡◌, ℕ, ◌-◌, ◌<◌, ◌≤◌, List, [], ◌∷◌, length, take, replicate, is_ok, Err, sym, refl, ap, ◌∙◌, ap₂, arith}
 use lib.ListN.{length-replicate}
 use Rattle.tinyjambu.specs.Mode.{seal}
 use Rattle.roll.specs.Roll.{Meaning, count, append_answer, append_after, image_after}
@@ -40,7 +40,8 @@ returns-then-space-charge g c =
     let t : List ℕ = c.args.text.now in
     let fits : length t < (raised l m).bound = rw c.bound.ensures at c.if-len-bound.false in
     let dear : (raised l m).space < (raised l m).charge (length t) = rw (c.charge.ensures, c.space.ensures) at c.if-space-charge.true in
-    let e = no_space (raised l m) t _ _ c.floor-floor.ensures c.count-entry.ensures fits c.if-entry-ge4095.false dear in
+    let few : c.count-entry.result < 4095 = omega arith in
+    let e = no_space (raised l m) t _ _ c.floor-floor.ensures c.count-entry.ensures fits few dear in
     let kept = refused l m (g.R.Roll.layers s.below) (g.R.Roll.bottom s.below) t (g.R.Roll.stands s.below) _ e in
     record { answer = ap Err c.fault-then-space-charge.ensures ∙ sym e; after = kept.0; stored = kept.1; floors = refl; bytes = refl; refused = λ _. refl }
 
@@ -66,7 +67,8 @@ returns g c =
     let n : List ℕ = c.nonce-nonce.result in
     let fits : length t < (raised l m).bound = rw c.bound.ensures at c.if-len-bound.false in
     let paid : (raised l m).charge (length t) ≤ (raised l m).space = rw (c.charge.ensures, c.space.ensures) at c.if-space-charge.false in
-    let room : count (raised l m) < 4095 = rw c.count-entry.ensures at c.if-entry-ge4095.false in
+    let few : c.count-entry.result < 4095 = omega arith in
+    let room : count (raised l m) < 4095 = rw c.count-entry.ensures at few in
     let h : Takes (raised l m) t = record { fits = fits; room = room; paid = paid } in
     let short = short_enough l m (length t) (g.R.Roll.lawful_top s.below) fits in
     let twelve : length n ≡ 12 = ap length c.nonce-nonce.ensures in

@@ -49,7 +49,7 @@ returns-then-space-len c =
     let short : length t < (tape memory).bound = omega (arith, bound, c.if-len.false) in
     let n = ap count (tape_is memory o.0) ∙ tape_count memory o.0 in
     let a =
-    too_dear (tape memory) t short (omega (arith, n, ap (λ x. x.count) o.1, c.if-extent-ge-MOST.false))
+    too_dear (tape memory) t short (omega (arith, n, ap (λ x. x.count) o.1))
     (omega (arith, charge_under memory (length t) short, c.space.ensures, c.if-space-len.true)) in
     let d = tape_refused memory t NoSpace _ _ c.refusal-then-space-len.ensures c.count-entry.ensures a in
     record { answer = d.0; after = d.1; stored = d.1; floors = refl; bytes = refl; refused = λ _. refl }
@@ -79,7 +79,8 @@ invariant_of-self c =
     let cheap : length t + 4 ≤ (tape memory).space = omega (arith, c.space.ensures, c.if-space-len.false) in
     let long : length c.write_entry.new.memory ≡ s.memory.len = omega (arith, c.write_entry.auto.memory, c.deref_mut.ensures.len) in
     let wrote = with_items_is s.memory _ long ∙ c.write_entry.ensures.after ∙ ap (λ m. entry_put x.count x.end m t) c.deref_mut.ensures.value in
-    record { known = append_judged memory t x o.0 o.1 c.if-len.false c.if-extent-ge-MOST.false cheap _ wrote _ c.write_entry.ensures.extent }
+    let few : x.count < 4095 = omega arith in
+    record { known = append_judged memory t x o.0 o.1 c.if-len.false few cheap _ wrote _ c.write_entry.ensures.extent }
 
 pub returns : goal.returns
 returns c =
@@ -91,7 +92,8 @@ returns c =
     let cheap : length t + 4 ≤ (tape memory).space = omega (arith, c.space.ensures, c.if-space-len.false) in
     let long : length c.write_entry.new.memory ≡ s.memory.len = omega (arith, c.write_entry.auto.memory, c.deref_mut.ensures.len) in
     let wrote = with_items_is s.memory _ long ∙ c.write_entry.ensures.after ∙ ap (λ m. entry_put x.count x.end m t) c.deref_mut.ensures.value in
-    let e = append_taken memory t x o.0 o.1 c.if-len.false c.if-extent-ge-MOST.false cheap _ wrote in
-    let grew = append_means memory t x o.0 o.1 c.if-len.false c.if-extent-ge-MOST.false cheap _ wrote in
-    let put = append_put memory t x o.0 o.1 c.if-len.false c.if-extent-ge-MOST.false cheap _ wrote in
+    let few : x.count < 4095 = omega arith in
+    let e = append_taken memory t x o.0 o.1 c.if-len.false few cheap _ wrote in
+    let grew = append_means memory t x o.0 o.1 c.if-len.false few cheap _ wrote in
+    let put = append_put memory t x o.0 o.1 c.if-len.false few cheap _ wrote in
     record { answer = ap Ok c.count-entry.ensures ∙ sym e; after = grew; stored = grew; floors = refl; bytes = put; refused = λ z. absurd (both_ways true z refl) }
