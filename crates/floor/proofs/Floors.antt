@@ -17,7 +17,7 @@ use Rattle.roll.specs.Floor.{Layer, nonce, above, seal_at, apply_seal, opened_en
 use Rattle.roll.specs.Laws.{raised_entry-length, raised-count, charge-raised, raised_lawful}
 use Rattle.roll.proofs.Rolls.{Takes, taken, tried, after_is, never, ok_one, said, entries_fit, read_told}
 use Rattle.roll.proofs.Reading.{measured, length_missing, length_given, read_missing, read_long, read_broken, read_given}
-use Rattle.roll.proofs.Piles.{raised_option, entry-raised, takes_below, takes_above, raised-append, piled-count}
+use Rattle.roll.proofs.Piles.{raised_option, entry-raised, takes_below, takes_above, piled-count}
 
 -- the name of a floor
 pub name-same : (l : Layer) (m : Meaning) → (raised l m).name ≡ m.name

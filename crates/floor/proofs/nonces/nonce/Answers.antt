@@ -1,4 +1,4 @@
-use Rattle.std.proofs.Common.{◌≡◌, ℕ, ◌/◌, ◌%◌, List, [], ◌∷◌, ◌∙◌, ap₂, arith}
+use Rattle.std.proofs.Common.{◌≡◌, ℕ, ◌/◌, ◌%◌, [], ◌∷◌, ◌∙◌, ap₂, arith}
 use Rattle.engine.specs.Bytes.{bytes}
 use Rattle.floor.proofs.nonces.nonce.Goals as goal
 

@@ -1,4 +1,4 @@
-use Rattle.std.proofs.Common.{◌+◌, min, sym, ap, ◌∙◌, arith}
+use Rattle.std.proofs.Common.{◌+◌, min, sym, ap, ◌∙◌}
 use Rattle.floor.proofs.Floors.{floor-same}
 use Rattle.floor.proofs.floor.FloorRoll.floor.Goals as goal
 
