@@ -3,7 +3,8 @@ use Rattle.std.proofs.Common.{◌≡◌, ℕ, ◌+◌, ◌-◌, ◌*◌, ◌^◌
 use Rattle.std.proofs.lemmas.Bool.{and_from, cond-true, le-leb}
 use Rattle.refusal.specs.declared.refusal.Refusal.TheVariants.{EntryTooLong}
 use Rattle.engine.specs.Permutation.{rounds}
-use Rattle.roll.specs.Roll.{Meaning, count, fault, append_answer}
+use Rattle.roll.specs.Roll.{Meaning, count, append_answer}
+use Rattle.refusal.specs.Refusals.{fault}
 use Rattle.roll.specs.Floor.{Layer, raised, piled}
 use Rattle.roll.specs.Laws.{raised-count, charge-raised}
 use Rattle.roll.proofs.Rolls.{taken, too_long}

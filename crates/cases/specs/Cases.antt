@@ -3,7 +3,8 @@ use Rattle.std.specs.Prelude.{◌≡◌, ℕ, ◌^◌, ◌<◌, ◌≤◌, List,
 use Rattle.refusal.specs.declared.refusal.Refusal.TheVariants.{EntryTooLong, NoSpace}
 use Rattle.engine.specs.Bytes.{words}
 use Rattle.engine.specs.Permutation.{bit, rounds}
-use Rattle.roll.specs.Roll.{count, fault, append_answer}
+use Rattle.roll.specs.Roll.{count, append_answer}
+use Rattle.refusal.specs.Refusals.{fault}
 use Rattle.roll.specs.Floor.{Layer, nonce, piled}
 use Rattle.pocket.specs.Pocket.{pocket}
 use Rattle.tape.specs.Tape.{InOrder, tape}

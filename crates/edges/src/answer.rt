@@ -9,6 +9,6 @@ pub(crate) fn number_of<T: Drop>(answer: Result<T, Fault>) -> u8
 {
     match answer {
         Ok(_) => 0,
-        Err(fault) => fault.refusal.number(),
+        Err(fault) => fault.refusal.into(),
     }
 }

@@ -32,7 +32,7 @@ pub(crate) fn in_pieces<E: Engine + Drop>(
     let (tag, _) = sealing.into_tag();
     let end = first + second;
     if out.len() - end < 8 {
-        return Err(Fault::outside(Refusal::OutTooShort));
+        return Err(Refusal::OutTooShort.into());
     }
     out[end..end + 8].copy_from_slice(&tag);
     Ok(end + 8)

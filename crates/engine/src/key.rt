@@ -35,7 +35,7 @@ impl Key {
     {
         let len = bytes.len();
         if !is_key_size(len) {
-            return Err(Fault::outside(Refusal::KeyLength));
+            return Err(Refusal::KeyLength.into());
         }
         let mut words = [0u32; 8];
         let used = len / 4;

@@ -11,7 +11,8 @@ use Rattle.tinyjambu.specs.Answers.{longest, seal_check, seal_answer, seal_out, 
 use Rattle.tinyjambu.proofs.Buffers.{message_check-none}
 use Rattle.tinyjambu.proofs.Opening.{open_check-none, opened-length}
 use Rattle.tinyjambu.proofs.Sealing.{seal-length}
-use Rattle.roll.specs.Roll.{Meaning, Entry, text, broken, Lawful, entry, entry_length, count, fault, append_answer, append_after, length_answer, read_answer, read_out}
+use Rattle.roll.specs.Roll.{Meaning, Entry, text, broken, Lawful, entry, entry_length, count, append_answer, append_after, length_answer, read_answer, read_out}
+use Rattle.refusal.specs.Refusals.{fault}
 use Rattle.roll.specs.Work.{text_at}
 use Rattle.roll.specs.Floor.{Layer, nonce, above, seal_at, apply_seal, opened_entry, raised, piled, sealed}
 use Rattle.roll.specs.Laws.{raised_entry-length, raised-count, charge-raised, raised_lawful}

@@ -1,6 +1,7 @@
 ghost use Rattle.std.specs.Prelude.{◌≡◌, ◌∷◌, refl};
 ghost use Rattle.std.proofs.Common.{ap};
-ghost use Rattle.roll.specs.Roll.{fault, count};
+ghost use Rattle.roll.specs.Roll.{count};
+ghost use Rattle.refusal.specs.Refusals.{fault};
 ghost use Rattle.roll.specs.Floor.{raised, sealed};
 ghost use Rattle.roll.specs.Kinds.{kind_byte};
 ghost use Rattle.roll.specs.Laws.{raised_lawful};

@@ -13,7 +13,7 @@ fn as_signed(answer: Result<usize, Fault>) -> i64
 {
     match answer {
         Ok(len) => len as i64,
-        Err(fault) => -i64::from(fault.refusal.number()),
+        Err(fault) => -i64::from(u8::from(fault.refusal)),
     }
 }
 

@@ -3,7 +3,8 @@ use Rattle.std.proofs.Common.{◌≡◌, ℕ, zero, suc, ◌+◌, ◌-◌, ◌*�
 use Rattle.std.proofs.lemmas.List.{take_more, take-take, take_at, get_or-take, length-take-le, take_more_set}
 use Rattle.refusal.specs.declared.refusal.Refusal.TheVariants.{EntryTooLong, NoSpace}
 use Rattle.roll.specs.Memory.{part, written}
-use Rattle.roll.specs.Roll.{Meaning, Entry, text, fault, count, entry, first, append_answer, append_after, grown}
+use Rattle.roll.specs.Roll.{Meaning, Entry, text, count, entry, first, append_answer, append_after, grown}
+use Rattle.refusal.specs.Refusals.{fault}
 use Rattle.roll.proofs.Memories.{same_below, part_length, written_there}
 use Rattle.roll.proofs.Rolls.{Takes, taken, after_is, too_long, too_dear}
 use Rattle.pocket.specs.Pocket.{paged, paged_all, entries_at, pocket_charge, pocket}

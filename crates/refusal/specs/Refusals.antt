@@ -35,9 +35,13 @@ refusal_words NoSpace = codes "the charge of the entry is more than the space"
 refusal_words OutTooShort = codes "the out buffer is too short"
 refusal_words Broken = codes "no text seals to the bytes"
 
+-- a refusal, the floor that it is about, and the number of the entry
+abbrev pub fault : Refusal → ℕ → ℕ → Fault
+fault r f e = record { refusal = r; floor = f; entry = e }
+
 -- the fault of a call outside rolls
 abbrev pub outside : Refusal → Fault
-outside r = record { refusal = r; floor = 0; entry = 0 }
+outside r = fault r 0 0
 
 -- a fault for a person to read: number, words, floor and entry
 abbrev pub fault_text : Fault → List ℕ

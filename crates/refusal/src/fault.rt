@@ -13,11 +13,11 @@ pub struct Fault {
     pub entry: u32,
 }
 
-impl Fault {
-    // The fault of a call outside rolls.
-    pub fn outside(refusal: Refusal) -> Fault
-        ensures { result ≡ outside refusal }
-    {
+// The fault of a call outside rolls.
+impl From<Refusal> for Fault {
+    ghost from_gives = { λ refusal fault. fault ≡ outside refusal };
+
+    fn from(refusal: Refusal) -> Fault {
         Fault {
             refusal,
             floor: 0,
@@ -27,16 +27,16 @@ impl Fault {
 }
 
 impl fmt::Display for Fault {
-    ghost output = { λ f. Some (fault_text f) };
+    ghost output = { λ fault. Some (fault_text fault) };
 
     fn fmt<W: fmt::Write>(&self, f: &mut fmt::Formatter<W>) -> fmt::Result {
-        let number = self.refusal.number();
-        let words = self.refusal.words();
+        let refusal = self.refusal;
+        let number = u8::from(refusal);
         let floor = self.floor;
         let entry = self.entry;
         write!(
             f,
-            "refusal {number}: {words} (floor {floor}, entry {entry})"
+            "refusal {number}: {refusal} (floor {floor}, entry {entry})"
         )
     }
 }

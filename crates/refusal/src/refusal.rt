@@ -1,5 +1,8 @@
-ghost use Rattle.std.specs.Prelude.{◌≡◌};
-ghost use Rattle.refusal.specs.Refusals.{refusal_number, refusal_words};
+ghost use Rattle.std.specs.Prelude.{◌≡◌, Some};
+ghost use Rattle.refusal.specs.Refusals.{refusal_number, refusal_words, fault};
+
+use crate::fault::Fault;
+use std::fmt;
 
 // Why a call was refused. The number of each case is part of the interface.
 #[derive(Clone, Copy, PartialEq, Eq, Debug)]
@@ -20,18 +23,33 @@ pub enum Refusal {
 }
 
 impl Refusal {
-    // The number of the refusal, 1 to 13.
-    pub fn number(self) -> u8
-        ensures { result ≡ refusal_number self }
+    // The fault of a call on a roll: the refusal, the floor that it is about, and the number of the entry.
+    pub fn at(self, floor: u32, entry: u32) -> Fault
+        ensures { result ≡ fault self floor entry }
     {
-        self as u8
+        Fault {
+            refusal: self,
+            floor,
+            entry,
+        }
     }
+}
 
-    // The refusal in words.
-    pub fn words(self) -> &'static str
-        ensures { result.now ≡ refusal_words self }
-    {
-        match self {
+// The number of a refusal, 1 to 13.
+impl From<Refusal> for u8 {
+    ghost from_gives = { λ refusal number. number ≡ refusal_number refusal };
+
+    fn from(refusal: Refusal) -> u8 {
+        refusal as u8
+    }
+}
+
+// A refusal in words.
+impl fmt::Display for Refusal {
+    ghost output = { λ refusal. Some (refusal_words refusal) };
+
+    fn fmt<W: fmt::Write>(&self, f: &mut fmt::Formatter<W>) -> fmt::Result {
+        f.write_str(match self {
             Refusal::KeyLength => "the key is not 16, 24 or 32 bytes",
             Refusal::NonceLength => "the nonce is not 12 bytes",
             Refusal::DataTooLong => "the associated data passes 65536 bytes",
@@ -45,6 +63,6 @@ impl Refusal {
             Refusal::NoSpace => "the charge of the entry is more than the space",
             Refusal::OutTooShort => "the out buffer is too short",
             Refusal::Broken => "no text seals to the bytes",
-        }
+        })
     }
 }

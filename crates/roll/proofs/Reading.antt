@@ -3,7 +3,8 @@ use Rattle.std.proofs.Common.{◌≡◌, ℕ, zero, suc, ◌<◌, ◌≤◌, Lis
 use Rattle.std.proofs.lemmas.Bool.{cond-true, cond-false, lt-ltb, le-ltb}
 use Rattle.refusal.specs.declared.fault.Fault.{Fault}
 use Rattle.refusal.specs.declared.refusal.Refusal.TheVariants.{NoEntry, OutTooShort, Broken}
-use Rattle.roll.specs.Roll.{Meaning, Entry, text, broken, entry_length, Lawful, fault, count, first, entry, length_answer, read_answer, read_out}
+use Rattle.roll.specs.Roll.{Meaning, Entry, text, broken, entry_length, Lawful, count, first, entry, length_answer, read_answer, read_out}
+use Rattle.refusal.specs.Refusals.{fault}
 use Rattle.roll.specs.Work.{text_at}
 use Rattle.roll.proofs.Rolls.{said, put, none_some, never, entries_fit, read_told}
 

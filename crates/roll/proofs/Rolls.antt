@@ -5,7 +5,8 @@ use Rattle.std.proofs.lemmas.Bool.{cases_Bool, cases_lt, both_ways, leb-false, l
 use Rattle.std.proofs.lemmas.List.{take_at, drop_at, length_push}
 use Rattle.refusal.specs.declared.fault.Fault.{Fault}
 use Rattle.refusal.specs.declared.refusal.Refusal.TheVariants.{NoEntry, EntryTooLong, RollFull, NoSpace, OutTooShort}
-use Rattle.roll.specs.Roll.{Meaning, Entry, text, broken, entry_length, entry, count, first, fault, Lawful, ShortEntries, append_answer, append_after, grown, read_entry, text_of, read_answer, read_out}
+use Rattle.roll.specs.Roll.{Meaning, Entry, text, broken, entry_length, entry, count, first, Lawful, ShortEntries, append_answer, append_after, grown, read_entry, text_of, read_answer, read_out}
+use Rattle.refusal.specs.Refusals.{fault}
 use Rattle.roll.specs.Work.{text_at}
 use Rattle.roll.specs.declared.answer.Answer.{Answer}
 use Rattle.roll.specs.declared.answer.Answer.TheVariants.{Appended}

@@ -1,7 +1,7 @@
 -- What a roll means, and what each call on one answers and leaves.
 use Rattle.std.specs.Prelude.{◌≡◌, ℕ, ◌+◌, ◌-◌, ◌*◌, ◌<◌, ◌≤◌, cond, List, [], ◌∷◌, ◌++◌, length, drop, replicate, Some, None, Ok, Err, Option, Result, nat_le, nat_lt}
 use Rattle.refusal.specs.declared.fault.Fault.{Fault}
-use Rattle.refusal.specs.declared.refusal.Refusal.{Refusal}
+use Rattle.refusal.specs.Refusals.{fault}
 use Rattle.refusal.specs.declared.refusal.Refusal.TheVariants.{NoEntry, EntryTooLong, RollFull, NoSpace, OutTooShort, Broken}
 
 -- an entry: its text, or the floor at which it is broken, and its length
@@ -57,10 +57,6 @@ pub record Lawful (m : Meaning) : Type 0 where
   pub free : (n : ℕ) → m.bound ≤ n → m.charge n ≡ 0
   pub low : m.floor ≤ 65535
   pub small : m.space ≤ 65536
-
--- a refusal, the floor that it is about, and the number of the entry
-abbrev pub fault : Refusal → ℕ → ℕ → Fault
-fault r f e = record { refusal = r; floor = f; entry = e }
 
 -- the answer to an append of a text: the number of the new entry, or the first of three refusals that applies
 abbrev pub append_answer : Meaning → List ℕ → Result ℕ Fault

@@ -8,7 +8,8 @@ use Rattle.refusal.specs.declared.fault.Fault.{Fault}
 use Rattle.refusal.specs.declared.refusal.Refusal.{Refusal}
 use Rattle.refusal.specs.declared.refusal.Refusal.TheVariants.{NoEntry}
 use Rattle.roll.specs.Memory.{part, written}
-use Rattle.roll.specs.Roll.{Meaning, Entry, text, count, entry, first, fault, append_answer, append_after, grown}
+use Rattle.roll.specs.Roll.{Meaning, Entry, text, count, entry, first, append_answer, append_after, grown}
+use Rattle.refusal.specs.Refusals.{fault}
 use Rattle.roll.proofs.Memories.{part_length, written_length, written_there, written_below, written_above}
 use Rattle.roll.proofs.Rolls.{Takes, taken, after_is}
 use Rattle.tape.specs.Tape.{word, name_of, count_of, begin_of, end_of, last_end, InOrder, in_order, between, tape_entry, tape_charge, roll_of, ordered_tape, nothing, tape, entry_put, tape_put}

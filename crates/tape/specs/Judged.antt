@@ -5,7 +5,8 @@ use Rattle.refusal.specs.Refusals.{outside}
 use Rattle.refusal.specs.declared.fault.Fault.{Fault}
 use Rattle.refusal.specs.declared.refusal.Refusal.TheVariants.{TapeLength, TapeDisorder, NoEntry}
 use Rattle.roll.specs.Memory.{written}
-use Rattle.roll.specs.Roll.{Meaning, fault}
+use Rattle.roll.specs.Roll.{Meaning}
+use Rattle.refusal.specs.Refusals.{fault}
 use Rattle.tape.specs.declared.extent.Extent.{Extent}
 use Rattle.tape.specs.declared.span.Span.{Span}
 use Rattle.tape.specs.Tape.{count_of, begin_of, end_of, last_end, tape_length, in_order, roll_of}

@@ -14,7 +14,7 @@ pub fn blank(memory: &mut [u8], name: u32) -> Result<(), Fault>
 {
     let len = memory.len();
     if !is_tape_length(len) {
-        return Err(Fault::outside(Refusal::TapeLength));
+        return Err(Refusal::TapeLength.into());
     }
     write_word(memory, 0, name);
     write_word(memory, 4, 0);

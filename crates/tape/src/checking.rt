@@ -12,10 +12,10 @@ pub fn check(memory: &[u8]) -> Result<u32, Fault>
     ensures finds { MatchResult result (λ n. InOrder memory.now × (count (tape memory.now) ≡ n)) (λ _. (InOrder memory.now → ⊥) × (tape memory.now ≡ nothing)) }
 {
     if !is_tape_length(memory.len()) {
-        return Err(Fault::outside(Refusal::TapeLength));
+        return Err(Refusal::TapeLength.into());
     }
     match judge(memory) {
         Some(extent) => Ok(extent.count as u32),
-        None => Err(Fault::outside(Refusal::TapeDisorder)),
+        None => Err(Refusal::TapeDisorder.into()),
     }
 }

@@ -29,7 +29,7 @@ pub fn listing(heap: Global, memory: Vec<u8>) -> Result<String, AllocError>
     match check(&memory) {
         Ok(_) => roll_lines(heap, &Tape::open(memory)),
         Err(fault) => {
-            let number = fault.refusal.number();
+            let number = u8::from(fault.refusal);
             format!(in heap; "refused {number}\n")
         },
     }

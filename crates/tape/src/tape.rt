@@ -2,7 +2,7 @@ ghost use Rattle.std.specs.Prelude.{◌≡◌, [], refl};
 ghost use Rattle.tape.specs.Tape.{tape, tape_put};
 ghost use Rattle.tape.specs.TapeLife.{TapeLives, TapeRests};
 ghost use Rattle.tape.specs.TapeLaws.{tape_lawful};
-ghost use Rattle.roll.specs.Roll.{fault};
+ghost use Rattle.refusal.specs.Refusals.{fault};
 ghost use Rattle.tape.specs.Judged.{judged, place_answer};
 
 use crate::extent::Extent;

@@ -61,13 +61,13 @@ pub fn seal_pieces<E: Engine>(
 {
     let len = joined_len(text);
     if too_long(0, joined_len(ad)) {
-        return Err(Fault::outside(Refusal::DataTooLong));
+        return Err(Refusal::DataTooLong.into());
     }
     if too_long(0, len) {
-        return Err(Fault::outside(Refusal::TextTooLong));
+        return Err(Refusal::TextTooLong.into());
     }
     if out.len() < len + 8 {
-        return Err(Fault::outside(Refusal::OutTooShort));
+        return Err(Refusal::OutTooShort.into());
     }
     let mut duplex = Duplex::begin(engine, nonce);
     absorb_pieces(&mut duplex, engine, ad);

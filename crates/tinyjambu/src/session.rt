@@ -49,7 +49,7 @@ impl<E: Engine> Session<E> {
         ensures refused { is_ok result ≡ false → self.new ≡ self.old }
     {
         if too_long(self.taken, piece.len()) {
-            return Err(Fault::outside(Refusal::DataTooLong));
+            return Err(Refusal::DataTooLong.into());
         }
         self.duplex.absorb(&mut self.engine, piece);
         self.taken += piece.len();
@@ -87,10 +87,10 @@ impl<E: Engine> TextSession<E> {
     {
         let len = piece.len();
         if too_long(self.taken, len) {
-            return Err(Fault::outside(Refusal::TextTooLong));
+            return Err(Refusal::TextTooLong.into());
         }
         if out.len() < len {
-            return Err(Fault::outside(Refusal::OutTooShort));
+            return Err(Refusal::OutTooShort.into());
         }
         let part = &mut out[0..len];
         self.duplex

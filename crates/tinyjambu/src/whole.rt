@@ -38,7 +38,7 @@ pub fn seal<E: Engine>(
     ensures refused { is_ok result ≡ false → engine.new ≡ engine.old }
 {
     let Some(words) = nonce_words(nonce) else {
-        return Err(Fault::outside(Refusal::NonceLength));
+        return Err(Refusal::NonceLength.into());
     };
     seal_pieces(engine, words, &[ad], &[text], out)
 }
@@ -91,23 +91,23 @@ pub fn open<E: Engine>(
 {
     let mut guard = Wipe { out, kept: false };
     let Some(words) = nonce_words(nonce) else {
-        return Err(Fault::outside(Refusal::NonceLength));
+        return Err(Refusal::NonceLength.into());
     };
     let len = sealed.len().saturating_sub(8);
     if too_long(0, ad.len()) {
-        return Err(Fault::outside(Refusal::DataTooLong));
+        return Err(Refusal::DataTooLong.into());
     }
     if too_long(0, len) {
-        return Err(Fault::outside(Refusal::TextTooLong));
+        return Err(Refusal::TextTooLong.into());
     }
     if sealed.len() < 8 {
-        return Err(Fault::outside(Refusal::SealedTooShort));
+        return Err(Refusal::SealedTooShort.into());
     }
     if guard.out.len() < len {
-        return Err(Fault::outside(Refusal::OutTooShort));
+        return Err(Refusal::OutTooShort.into());
     }
     if !recover(engine, words, ad, sealed, &mut guard.out[0..len]) {
-        return Err(Fault::outside(Refusal::Broken));
+        return Err(Refusal::Broken.into());
     }
     guard.kept = true;
     Ok(len)

@@ -23,7 +23,7 @@ returns-then-not-recover g c =
     let fits : length c.recover.new.out ≡ c.saturating_sub-len.result = c.recover.auto.out ∙ length-take-le (c.saturating_sub-len.result - 0) out (omega arith) ∙ omega arith in
     let none = ap (λ x. opened key x ad s) (sym taken.1) ∙ c.if-not-recover.ensures.text in
     let wiped = c.drop-guard-then-not-recover.ensures ∙ ap (λ k. replicate k 0) (length_part c.recover.new.out out c.saturating_sub-len.result fits c.if-guard-len.false) in
-    let done = opened_by key n ad s out (open_check (length n) (length ad) (length s) (length out)) None _ _ check none (ap Err c.outside-then-not-recover.ensures) wiped in
+    let done = opened_by key n ad s out (open_check (length n) (length ad) (length s) (length out)) None _ _ check none (ap Err c.into-then-not-recover.ensures) wiped in
     record { answer = done.answer; out = done.bytes; exact = λ _. done.exact; refused = λ e. absurd (both_ways _ (ap is_some check) e); same = c.recover.ensures.same }
 
 pub returns : goal.returns

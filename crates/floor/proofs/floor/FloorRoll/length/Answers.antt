@@ -1,6 +1,6 @@
 use Rattle.std.proofs.Common.{Ok, Err, sym, ap, ◌∙◌}
 use Rattle.refusal.specs.declared.refusal.Refusal.TheVariants.{NoEntry}
-use Rattle.roll.specs.Roll.{fault}
+use Rattle.refusal.specs.Refusals.{fault}
 use Rattle.floor.proofs.Floors.{length_none, length_less}
 use Rattle.floor.proofs.floor.FloorRoll.length.Goals as goal
 

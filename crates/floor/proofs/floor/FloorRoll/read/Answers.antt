@@ -3,7 +3,8 @@ use Rattle.std.proofs.lemmas.List.{length-take-le}
 use Rattle.std.proofs.lemmas.Result.{err_from_is_err_and}
 use Rattle.refusal.specs.declared.refusal.Refusal.TheVariants.{OutTooShort}
 use Rattle.tinyjambu.proofs.Buffers.{length_part}
-use Rattle.roll.specs.Roll.{Meaning, fault}
+use Rattle.roll.specs.Roll.{Meaning}
+use Rattle.refusal.specs.Refusals.{fault}
 use Rattle.roll.specs.Floor.{Layer, raised}
 use Rattle.roll.specs.Kinds.{kind_byte}
 use Rattle.floor.specs.Laid.{layer}

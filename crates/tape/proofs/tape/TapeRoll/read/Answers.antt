@@ -1,7 +1,7 @@
 use Rattle.std.proofs.Common.{ℕ, ◌-◌, List, length, take, drop, Ok, Err, vec_items, sym, refl, ap, ◌∙◌, arith}
 use Rattle.std.proofs.lemmas.Result.{err_from_is_err_and}
 use Rattle.refusal.specs.declared.refusal.Refusal.TheVariants.{OutTooShort}
-use Rattle.roll.specs.Roll.{fault}
+use Rattle.refusal.specs.Refusals.{fault}
 use Rattle.roll.proofs.Memories.{read-part}
 use Rattle.roll.proofs.Reading.{read_missing, read_long, read_given}
 use Rattle.tape.specs.Tape.{tape}
