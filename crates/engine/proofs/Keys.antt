@@ -1,13 +1,22 @@
 -- The bits of a key that is held in words.
-use Rattle.std.proofs.Common.{◌≡◌, ℕ, zero, suc, ◌+◌, ◌-◌, ◌*◌, ◌/◌, ◌%◌, ◌^◌, ◌<◌, ◌≤◌, true, ◌||◌, eqb, List, [], ◌∷◌, ◌++◌, length, get_or, take, drop, set, replicate, sym, ap, ◌∙◌, ap₂, ⊎_elim, append-nil, mod-lt, zero-add, arith, length-drop, get_or-take, take-add}
+use Rattle.std.proofs.Common.{◌≡◌, ℕ, zero, suc, ◌+◌, ◌-◌, ◌*◌, ◌/◌, ◌%◌, ◌^◌, ◌<◌, ◌≤◌, true, false, Ok, Err, refl, ◌||◌, eqb, List, [], ◌∷◌, ◌++◌, length, get_or, take, drop, set, replicate, sym, ap, ◌∙◌, ap₂, ⊎_elim, append-nil, mod-lt, zero-add, arith, length-drop, get_or-take, take-add}
 use native.Mathlib.Nat.{div-add-mod}
 use lib.Arith.{mod-mul}
 use Rattle.std.proofs.lemmas.Bool.{eqb-true, or_cases}
 use Rattle.std.proofs.ByRecursion.{All-take, All-drop}
-use Rattle.std.proofs.lemmas.List.{get_or_append_left, take_more_set, length-take-le, drop-set-lt, drop-drop, drop-replicate}
+use lib.ListN.{length-map}
+use Rattle.std.proofs.lemmas.List.{get_or_append_left, take_more_set, length-take-le, drop-set-lt, drop-drop, drop-replicate, take_all, take-map}
 use Rattle.engine.specs.Permutation.{bit, key_bit, long_rounds}
 use Rattle.engine.specs.Bytes.{number, bytes, AllBytes, word_bytes, length-word_bytes}
-use Rattle.engine.specs.Keys.{key_of, is_key_size}
+use Rattle.std.proofs.lemmas.Bool.Decides.{nat_tests}
+use Rattle.std.specs.Simd.{first_chunks}
+use Rattle.refusal.specs.declared.refusal.Refusal.{Refusal}
+use Rattle.refusal.specs.declared.refusal.Refusal.TheVariants.{KeyLength}
+use Rattle.engine.specs.declared.key_size.KeySize.{KeySize}
+use Rattle.engine.specs.declared.key_size.KeySize.TheVariants.{Bits128, Bits192, Bits256}
+use Rattle.engine.specs.declared.key_words.KeyWords.{KeyWords}
+use Rattle.engine.specs.Keys.{key_of, is_key_size, size_words, size_of}
+use Rattle.engine.specs.Turns.{flip, flipped}
 use Rattle.engine.proofs.Bitwise.{bit-mod, bit-shr}
 use Rattle.engine.proofs.Joined.{bytes_at, bytes-number, word_bytes-append}
 
@@ -65,3 +74,43 @@ filled_more ws bs i small h l e =
     let u : bytes 4 (number part) ++ [] ≡ part = append-nil (bytes 4 (number part)) ∙ ap (λ k. bytes k (number part)) (sym n) ∙ p in
     ap word_bytes (take_more_set ws i (number part) h) ∙ word_bytes-append (take i ws) (number part ∷ [])
     ∙ ap₂ ◌++◌ e u ∙ sym t ∙ ap (λ k. take k bs) (sym q)
+
+-- words that are in use, taken out of the eight
+pub key_of-taken : (ws xs : List ℕ) (u : ℕ) → xs ≡ take u ws → key_of xs (length xs) ≡ key_of ws u
+key_of-taken ws xs u e = ap word_bytes (take_all (length xs) xs (omega arith) ∙ e)
+
+pub key_of-flipped : (ws xs : List ℕ) (u : ℕ) → xs ≡ take u ws → key_of (flipped xs) (length xs) ≡ key_of (flipped ws) u
+key_of-flipped ws xs u e =
+    ap word_bytes (take_all (length xs) (flipped xs) (omega (arith, length-map xs flip)) ∙ ap flipped e ∙ sym (take-map flip u ws))
+
+-- some words are in use
+size_words-some : (s : KeySize) → 0 < size_words s
+size_words-some Bits128 = omega arith
+size_words-some Bits192 = omega arith
+size_words-some Bits256 = omega arith
+
+pub size_words-most : (s : KeySize) → size_words s ≤ 8
+size_words-most Bits128 = omega arith
+size_words-most Bits192 = omega arith
+size_words-most Bits256 = omega arith
+
+pub length-in_use : (k : KeyWords) (xs : List ℕ) → xs ≡ take (size_words k.size) k.words → length xs ≡ size_words k.size
+length-in_use k xs e = ap length e ∙ length-take-le (size_words k.size) k.words (omega (arith, size_words-most k.size, k.stored))
+
+pub in_use-some : (k : KeyWords) (xs : List ℕ) → xs ≡ take (size_words k.size) k.words → 0 < length xs
+in_use-some k xs e = omega (arith, length-in_use k xs e, size_words-some k.size)
+
+-- a part of four bytes out of many
+pub part_at : (k i : ℕ) (xs : List ℕ) → i < k → get_or (first_chunks 4 k xs) i [] ≡ take 4 (drop (4 * i) xs)
+part_at zero i xs h = absurd (omega arith)
+part_at (suc k) zero xs h = refl
+part_at (suc k) (suc i) xs h =
+    let e : 4 + 4 * i ≡ 4 * suc i = omega arith in
+    part_at k i (drop 4 xs) (omega arith) ∙ ap (take 4) (drop-drop (4 * i) 4 xs ∙ ap (λ n. drop n xs) e)
+
+-- the size of so many bytes
+pub size_of-ok : (n : ℕ) (s : KeySize) → size_of n ≡ Ok s → (is_key_size n ≡ true) × (n ≡ 4 * size_words s)
+size_of-ok n s e = grind (arith, nat_tests)
+
+pub size_of-err : (n : ℕ) (r : Refusal) → size_of n ≡ Err r → (is_key_size n ≡ false) × (r ≡ KeyLength)
+size_of-err n r e = grind (arith, nat_tests)

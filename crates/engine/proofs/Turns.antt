@@ -1,14 +1,13 @@
 -- A run that takes thirty-two rounds at a time, on four words.
-use Rattle.std.proofs.Common.{◌≡◌, ℕ, ◌+◌, ◌*◌, ◌/◌, ◌%◌, ◌^◌, ◌<◌, ◌≤◌, List, [], ◌∷◌, ◌++◌, length, get_or, take, set, sym, refl, ap, ◌∙◌, div-add-mod', div-one, add-one, arith}
+use Rattle.std.proofs.Common.{◌≡◌, ℕ, ◌+◌, ◌*◌, ◌/◌, ◌%◌, ◌^◌, ◌<◌, ◌≤◌, List, [], ◌∷◌, length, get_or, sym, refl, ap, ◌∙◌, div-add-mod', div-one, add-one, arith}
 use native.Mathlib.Nat.{mod-add-mod}
 use lib.ListN.{length-map}
-use Rattle.std.proofs.lemmas.List.{get_or-map, map-set, take_more, take_more_set}
+use Rattle.std.proofs.lemmas.List.{get_or-map}
 use Rattle.engine.specs.Permutation.{bit, taps, key_bit, rounds}
-use Rattle.engine.specs.Bytes.{joined, word_bytes, AllWords}
+use Rattle.engine.specs.Bytes.{joined, AllWords}
 use Rattle.engine.specs.Keys.{key_of}
 use Rattle.engine.specs.Turns.{Brings, flip, flipped}
 use Rattle.engine.proofs.Rounds.{at_once}
-use Rattle.engine.proofs.Joined.{word_bytes-append}
 use Rattle.engine.proofs.Keys.{key_at}
 
 -- After q words of the key, which are the first u of ws, the next is at the place `at`, and the state is in the words a to d.
@@ -53,15 +52,3 @@ turn_flipped ws {at = at} {a} {b} {c} {d} {r = r} h brings =
     let n : at < length ws = omega (arith, length-map ws flip, h.many, h.below) in
     let e = get_or-map flip ws at 0 0 n in
     turn h (rw e brings)
-
--- one word more of a key that is held by its complements
-pub flipped_more : (ws ks : List ℕ) (i w : ℕ) → i < length ws → i < length ks → w ≡ get_or ks i 0 → w < 2 ^ 32
-    → key_of (flipped ws) i ≡ key_of ks i → key_of (flipped (set ws i (flip w))) (i + 1) ≡ key_of ks (i + 1)
-flipped_more ws ks i w h l is small e =
-    let twice : flip (flip w) ≡ w = omega arith in
-    let n : i < length (flipped ws) = omega (arith, length-map ws flip) in
-    let p : take (i + 1) (flipped (set ws i (flip w))) ≡ take i (flipped ws) ++ w ∷ []
-    = ap (take (i + 1)) (map-set flip ws i (flip w)) ∙ take_more_set (flipped ws) i (flip (flip w)) n ∙ ap (λ x. take i (flipped ws) ++ x ∷ []) twice in
-    let q : take (i + 1) ks ≡ take i ks ++ w ∷ [] = take_more ks i 0 l ∙ ap (λ x. take i ks ++ x ∷ []) (sym is) in
-    ap word_bytes p ∙ word_bytes-append (take i (flipped ws)) (w ∷ []) ∙ ap (λ r. r ++ word_bytes (w ∷ [])) e
-    ∙ sym (ap word_bytes q ∙ word_bytes-append (take i ks) (w ∷ []))

@@ -1,4 +1,5 @@
 pub mod Permutation
 pub mod Bytes
 pub mod Keys
+pub mod KeyBytes
 pub mod Turns

@@ -1,6 +1,7 @@
 ghost use Rattle.std.specs.Prelude.{◌≡◌, ◌+◌, ◌*◌, ◌/◌, ◌%◌, ◌^◌};
 ghost use Rattle.engine.specs.Permutation.{rounds, taps, bit};
-ghost use Rattle.engine.specs.Keys.{key_of, key_of_sized};
+ghost use Rattle.engine.specs.Keys.{key_of_sized};
+ghost use Rattle.engine.specs.KeyBytes.{key_bytes};
 
 use crate::engine::Engine;
 use crate::key::Key;
@@ -22,14 +23,13 @@ impl BitEngine {
 
     // The state after `count` rounds, as a number.
     fn run(&self, state: u128, count: u32) -> u128
-        ensures { result ≡ rounds (key_of self.now.key.words self.now.key.used) count state }
+        ensures { result ≡ rounds (key_bytes self.now.key) count state }
     {
+        let key = self.key.words();
+        let words = key.in_use();
         let mut s = state;
         for i in 0..count {
-            s = bit_round(
-                s,
-                self.key.word((i / 32) as usize % self.key.used()) >> (i % 32),
-            );
+            s = bit_round(s, words[(i / 32) as usize % words.len()] >> (i % 32));
         }
         s
     }
@@ -44,15 +44,15 @@ fn bit_round(s: u128, k: u32) -> u128
 }
 
 impl Engine for BitEngine {
-    ghost key = { λ s. key_of s.key.words s.key.used };
+    ghost key = { λ s. key_bytes s.key };
 
-    ghost sized = { λ s. key_of_sized s.key.words s.key.used s.key.least s.key.most s.key.even s.key.stored };
+    ghost sized = { λ s. key_of_sized s.key.words.words s.key.words.size s.key.words.stored };
 
     fn short_run(&mut self, state: [u32; 4]) -> [u32; 4] {
         as_words(self.run(as_number(state), 640))
     }
 
     fn long_run(&mut self, state: [u32; 4]) -> [u32; 4] {
-        as_words(self.run(as_number(state), self.key.long_rounds()))
+        as_words(self.run(as_number(state), self.key.words().long_rounds()))
     }
 }

@@ -1,14 +1,15 @@
 ghost use Rattle.std.specs.Prelude.{◌≡◌, ℕ, List};
 ghost use Rattle.engine.specs.Permutation.{rounds, short_rounds, long_rounds};
 ghost use Rattle.engine.specs.Bytes.{joined, words};
-ghost use Rattle.engine.specs.Keys.{KeySize};
+ghost use Rattle.engine.specs.Keys.{HasKeySize};
 
 // A key at work. A run turns a state of four words, the least word first, into the state that its rounds give under the key.
 pub trait Engine {
     // The bytes of the key, of which there are 16, 24 or 32.
     ghost key: { Self → List ℕ };
 
-    ghost sized: { (s : Self) → KeySize (key s) };
+    // The length that every key has.
+    ghost sized: { (s : Self) → HasKeySize (key s) };
 
     // The state after 640 rounds.
     fn short_run(&mut self, state: [u32; 4]) -> [u32; 4]

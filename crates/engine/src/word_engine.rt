@@ -1,71 +1,60 @@
-ghost use Rattle.std.specs.Prelude.{◌≡◌, ◌+◌, ◌*◌, ◌/◌, ◌%◌, ◌^◌, ◌<◌, ◌≤◌, [], ◌∷◌, length};
-ghost use Rattle.engine.specs.Permutation.{rounds, long_rounds};
+ghost use Rattle.std.specs.Prelude.{◌≡◌, ◌+◌, ◌*◌, ◌/◌, ◌%◌, ◌^◌, ◌<◌, [], ◌∷◌};
+ghost use Rattle.engine.specs.Permutation.{rounds};
 ghost use Rattle.engine.specs.Bytes.{joined};
-ghost use Rattle.engine.specs.Keys.{key_of, key_of_sized};
-ghost use Rattle.engine.specs.Turns.{Brings, flipped, flip, flipped-stored};
+ghost use Rattle.engine.specs.Keys.{key_of, size_words, key_of_sized};
+ghost use Rattle.engine.specs.KeyBytes.{key_bytes};
+ghost use Rattle.engine.specs.Turns.{Brings, flipped, flip, length-flipped};
 
 use crate::engine::Engine;
 use crate::key::Key;
+use crate::key_words::KeyWords;
 use crate::state::{as_number, as_words};
 
 // An engine that moves the state by thirty-two bits at a time. It keeps the complement of the key's words, so that the nand of a round becomes an and.
 #[derive(Clone, Copy)]
 pub struct WordEngine {
-    words: [u32; 8],
-    used: usize,
-    ghost least: { 4 ≤ used },
-    ghost most: { used ≤ 8 },
-    ghost even: { used % 2 ≡ 0 },
-    ghost stored: { used ≤ length words },
+    complement: KeyWords,
 }
 
 impl WordEngine {
     // The engine of a key.
     pub fn new(key: Key) -> WordEngine
-        ensures { key_of (flipped result.words) result.used ≡ key_of key.words key.used }
+        ensures { ⟦<WordEngine as Engine>⟧.key result ≡ key_bytes key }
     {
-        let mut words = [0u32; 8];
-        let used = key.used();
-        for i in 0..used {
-            words[i] = !key.word(i);
+        WordEngine {
+            complement: key.words().complement(),
         }
-        WordEngine { words, used }
-    }
-
-    // The place after `at`: after the last comes the first.
-    fn next(&self, at: usize) -> usize
-        requires { at < self.now.used }
-        ensures is { result ≡ (at + 1) % self.now.used }
-        ensures below { result < self.now.used }
-    {
-        if at + 1 < self.used { at + 1 } else { 0 }
-    }
-
-    // The rounds of a long run under the key, in steps of 128.
-    fn long_steps(&self) -> u32
-        ensures { 128 * result ≡ long_rounds (key_of (flipped self.now.words) self.now.used) }
-    {
-        6 + self.used as u32 / 2
     }
 
     // The state after `steps` times 128 rounds, as a number.
     fn run(&self, state: u128, steps: u32) -> u128
-        ensures { result ≡ rounds (key_of (flipped self.now.words) self.now.used) (128 * steps) state }
+        ensures { result ≡ rounds (key_of (flipped self.now.complement.words) (size_words self.now.complement.size)) (128 * steps) state }
     {
+        let words = self.complement.in_use();
         let [mut a, mut b, mut c, mut d] = as_words(state);
+        // A place that is counted by hand: over `words.iter().cycle()` a run took 1.6 times as long.
         let mut at: usize = 0;
         for n in 0..steps {
-            a = mix(a, b, c, d, self.words[at]);
-            at = self.next(at);
-            b = mix(b, c, d, a, self.words[at]);
-            at = self.next(at);
-            c = mix(c, d, a, b, self.words[at]);
-            at = self.next(at);
-            d = mix(d, a, b, c, self.words[at]);
-            at = self.next(at);
+            a = mix(a, b, c, d, words[at]);
+            at = next(at, words.len());
+            b = mix(b, c, d, a, words[at]);
+            at = next(at, words.len());
+            c = mix(c, d, a, b, words[at]);
+            at = next(at, words.len());
+            d = mix(d, a, b, c, words[at]);
+            at = next(at, words.len());
         }
         as_number([a, b, c, d])
     }
+}
+
+// The place after `at`: after the last of `len` comes the first.
+fn next(at: usize, len: usize) -> usize
+    requires { at < len }
+    ensures is { result ≡ (at + 1) % len }
+    ensures below { result < len }
+{
+    if at + 1 < len { at + 1 } else { 0 }
 }
 
 // The 32 bits from bit `from` on, of two words of which `lo` comes first.
@@ -88,15 +77,15 @@ fn mix(a: u32, b: u32, c: u32, d: u32, k: u32) -> u32
 }
 
 impl Engine for WordEngine {
-    ghost key = { λ s. key_of (flipped s.words) s.used };
+    ghost key = { λ s. key_of (flipped s.complement.words) (size_words s.complement.size) };
 
-    ghost sized = { λ s. key_of_sized (flipped s.words) s.used s.least s.most s.even (flipped-stored s.words s.used s.stored) };
+    ghost sized = { λ s. key_of_sized (flipped s.complement.words) s.complement.size (length-flipped s.complement.words s.complement.stored) };
 
     fn short_run(&mut self, state: [u32; 4]) -> [u32; 4] {
         as_words(self.run(as_number(state), 5))
     }
 
     fn long_run(&mut self, state: [u32; 4]) -> [u32; 4] {
-        as_words(self.run(as_number(state), self.long_steps()))
+        as_words(self.run(as_number(state), self.complement.long_rounds() / 128))
     }
 }

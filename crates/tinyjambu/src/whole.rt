@@ -89,7 +89,7 @@ pub fn open<E: Engine>(
     ensures refused { is_some (open_refusal nonce.now ad.now sealed.now out.old) ≡ true → engine.new ≡ engine.old }
     ensures same { E.key engine.new ≡ E.key engine.old }
 {
-    let mut guard = Wipe { out, kept: false };
+    let mut guard = Wipe { out };
     let Some(words) = nonce_words(nonce) else {
         return Err(Refusal::NonceLength.into());
     };
@@ -109,6 +109,6 @@ pub fn open<E: Engine>(
     if !recover(engine, words, ad, sealed, &mut guard.out[0..len]) {
         return Err(Refusal::Broken.into());
     }
-    guard.kept = true;
+    guard.keep();
     Ok(len)
 }

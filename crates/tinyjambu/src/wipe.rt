@@ -1,18 +1,24 @@
-ghost use Rattle.std.specs.Prelude.{◌≡◌, length, replicate, if◌then◌else◌};
+ghost use Rattle.std.specs.Prelude.{◌≡◌, length, replicate};
 
-// Guards an out buffer: on every way out of its scope the whole buffer is wiped to zeros, unless it is kept.
+// Guards an out buffer: on every way out of its scope the whole buffer is wiped to zeros, unless it was told to keep it.
 pub struct Wipe<'a> {
     pub out: &'a mut [u8],
-    pub kept: bool,
+}
+
+impl Wipe<'_> {
+    // Keeps what is in the buffer: there is nothing to wipe any more.
+    pub fn keep(self)
+        ensures { self.exit.out.now ≡ self.entry.out.now }
+    {
+        let Wipe { out: _ } = self;
+    }
 }
 
 impl Drop for Wipe<'_> {
     fn drop(self)
-        ensures { self.exit.0.now ≡ (if self.entry.kept then self.entry.out.now else replicate (length self.entry.out.now) 0) }
+        ensures { self.exit.0.now ≡ replicate (length self.entry.out.now) 0 }
     {
-        if !self.kept {
-            self.out.fill(0);
-        }
-        let Wipe { out: _, kept: _ } = self;
+        self.out.fill(0);
+        let Wipe { out: _ } = self;
     }
 }
