@@ -5,7 +5,7 @@ use Rattle.std.proofs.lemmas.List.{take_at, drop_at}
 use Rattle.engine.specs.Bytes.{AllBytes}
 use Rattle.tinyjambu.specs.Mode.{begun, blocks, absorbed, data_run, text_run, text_state, ciphertext, tag, seal}
 use Rattle.tinyjambu.specs.Duplex.{fed, sealed_bytes, closed}
-use Rattle.tinyjambu.specs.History.{Took, TookData, TookText, sealed_piece, sealed_tag}
+use Rattle.tinyjambu.specs.History.{Took, sealed_piece, sealed_tag}
 use Rattle.tinyjambu.proofs.Exact.{ciphertext_is, text_state_is}
 use Rattle.tinyjambu.proofs.Feeding.{fed_after, sealed-after, length_sealed}
 use Rattle.tinyjambu.proofs.Blocks.{fed_blocks, sealed_blocks, absorbed_is}
@@ -23,12 +23,19 @@ took_more {run} {start} {bs} {s} {k} h p s' k' small e f = record {
   filled = f ∙ place_more (length bs) (length p) k h.filled ∙ ap (λ n. n % 4) (sym (length-append bs p));
 }
 
+-- the associated data ad was taken, or all of it and the text t, by the state and the open block
+abbrev pub DataAt : List ℕ → List ℕ → List ℕ → ℕ → ℕ → Type 0
+DataAt key nonce ad s k = Took (data_run key) (begun key nonce) ad s k
+
+abbrev pub TextAt : List ℕ → List ℕ → List ℕ → List ℕ → ℕ → ℕ → Type 0
+TextAt key nonce ad t s k = Took (text_run key) (absorbed key (begun key nonce) (blocks ad)) t s k
+
 module _ (key nonce : List ℕ) where
   -- the associated data begins, and ends
-  pub data_none : (s k : ℕ) → s ≡ begun key nonce → k ≡ 0 → TookData key nonce [] s k
+  pub data_none : (s k : ℕ) → s ≡ begun key nonce → k ≡ 0 → DataAt key nonce [] s k
   data_none s k e f = record { small = tt; state = e; filled = f }
 
-  pub data_all : (ad : List ℕ) (s k s' k' : ℕ) → TookData key nonce ad s k → s' ≡ closed k s → k' ≡ 0 → TookText key nonce ad [] s' k'
+  pub data_all : (ad : List ℕ) (s k s' k' : ℕ) → DataAt key nonce ad s k → s' ≡ closed k s → k' ≡ 0 → TextAt key nonce ad [] s' k'
   data_all ad s k s' k' h e f = record {
     small = tt;
     state = e ∙ ap₂ closed h.filled h.state ∙ fed_blocks (data_run key) ad (begun key nonce) h.small ∙ sym (absorbed_is key (begun key nonce) (blocks ad));
@@ -49,7 +56,7 @@ module _ (key nonce : List ℕ) where
     seal_is t small = ap (λ c. c ++ tag key (text_state key start (blocks t))) (sym (sealed_is t small))
 
     -- the part of the sealed form that a piece of the text gives
-    pub sealed_part : (t p : List ℕ) (s k : ℕ) → TookText key nonce ad t s k → AllBytes p
+    pub sealed_part : (t p : List ℕ) (s k : ℕ) → TextAt key nonce ad t s k → AllBytes p
         → sealed_bytes (text_run key) k s p ≡ sealed_piece key nonce ad t p
     sealed_part t p s k h small =
         let here : List ℕ = sealed_bytes (text_run key) k s p in
@@ -64,7 +71,7 @@ module _ (key nonce : List ℕ) where
         sym (ap (take (length p)) g ∙ take_at here rest (length p) (length_sealed (text_run key) p k s))
 
     -- the tag is what the sealed form has after the text
-    pub tag_part : (t : List ℕ) (s k : ℕ) → TookText key nonce ad t s k → tag key (closed k s) ≡ sealed_tag key nonce ad t
+    pub tag_part : (t : List ℕ) (s k : ℕ) → TextAt key nonce ad t s k → tag key (closed k s) ≡ sealed_tag key nonce ad t
     tag_part t s k h =
         let before : List ℕ = sealed_bytes (text_run key) 0 start t in
         let e : closed k s ≡ text_state key start (blocks t)

@@ -5,6 +5,7 @@ pub mod Sealing
 pub mod Tags
 pub mod Opening
 pub mod Feeding
+pub mod Absorbing
 pub mod Steps
 pub mod Blocks
 pub mod Buffers

@@ -7,12 +7,12 @@ use Rattle.std.proofs.lemmas.Bool.{ltb-false}
 use Rattle.tinyjambu.specs.Answers.{longest}
 use borrow.Rule.Slice.PartMut.{put_mid}
 use Rattle.engine.specs.Bytes.{AllBytes}
-use Rattle.tinyjambu.specs.History.{TookData, TookText, sealed_piece}
+use Rattle.tinyjambu.specs.History.{sealed_piece}
 use Rattle.tinyjambu.specs.Message.{message}
 use Rattle.tinyjambu.specs.Mode.{begun, blocks, absorbed, text_run}
 use Rattle.tinyjambu.specs.Duplex.{fed}
 use Rattle.tinyjambu.proofs.Feeding.{sealed-after}
-use Rattle.tinyjambu.proofs.Histories.{sealed_part}
+use Rattle.tinyjambu.proofs.Histories.{DataAt, TextAt, sealed_part}
 
 -- what a read past the end of the pieces would give
 abbrev pub nothing : Bor (List ℕ)
@@ -55,7 +55,7 @@ total_more ps i total next h e f =
 module _ (key nonce ad : List ℕ) where
   -- the next piece of the associated data
   pub data_piece : (ps : List (Bor (List ℕ))) (i : ℕ) (s k : ℕ) → i < length ps
-      → TookData key nonce ((ad ++ message (take i ps)) ++ (get_or ps i nothing).now) s k → TookData key nonce (ad ++ message (take (i + 1) ps)) s k
+      → DataAt key nonce ((ad ++ message (take i ps)) ++ (get_or ps i nothing).now) s k → DataAt key nonce (ad ++ message (take (i + 1) ps)) s k
   data_piece ps i s k h t =
       let e = append_assoc ad (message (take i ps)) (get_or ps i nothing).now ∙ ap (λ m. ad ++ m) (sym (message_more ps i h)) in
       rw e at t
@@ -65,17 +65,17 @@ module _ (key nonce ad : List ℕ) where
   sealed_join t p h l =
       let run = text_run key in
       let s = absorbed key (begun key nonce) (blocks ad) in
-      let none : TookText key nonce ad [] s 0 = record { small = tt; state = refl; filled = refl } in
-      let some : TookText key nonce ad t (fed run 0 s t) (length t % 4) = record { small = h; state = refl; filled = refl } in
+      let none : TextAt key nonce ad [] s 0 = record { small = tt; state = refl; filled = refl } in
+      let some : TextAt key nonce ad t (fed run 0 s t) (length t % 4) = record { small = h; state = refl; filled = refl } in
       ap₂ ◌++◌ (sym (sealed_part key nonce ad [] t s 0 none h)) (sym (sealed_part key nonce ad t p (fed run 0 s t) (length t % 4) some l))
       ∙ sym (sealed-after run t p s) ∙ sealed_part key nonce ad [] (t ++ p) s 0 none (All-append (λ b. b < 256) t p h l)
 
   -- the next piece of the text, written after what was sealed before it
   pub text_piece : (ps : List (Bor (List ℕ))) (i at s k s' k' : ℕ) (out part : List ℕ) → i < length ps → at ≡ length (message (take i ps)) → at ≤ length out
-      → TookText key nonce ad (message (take i ps)) s k → TookText key nonce ad (message (take i ps) ++ (get_or ps i nothing).now) s' k'
+      → TextAt key nonce ad (message (take i ps)) s k → TextAt key nonce ad (message (take i ps) ++ (get_or ps i nothing).now) s' k'
       → take at out ≡ sealed_piece key nonce ad [] (message (take i ps)) → part ≡ sealed_piece key nonce ad (message (take i ps)) (get_or ps i nothing).now
       → length part ≡ length (get_or ps i nothing).now
-      → TookText key nonce ad (message (take (i + 1) ps)) s' k'
+      → TextAt key nonce ad (message (take (i + 1) ps)) s' k'
       × (take (at + length (get_or ps i nothing).now) (put_mid at (at + length (get_or ps i nothing).now - at) out part) ≡ sealed_piece key nonce ad [] (message (take (i + 1) ps)))
   text_piece ps i at s k s' k' out part h n l before after e f m =
       let t : List ℕ = message (take i ps) in

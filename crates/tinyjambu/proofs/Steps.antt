@@ -35,20 +35,6 @@ module _ {run : ℕ → ℕ} {k s at : ℕ} {piece : List ℕ} {state filled : �
         place = omega arith;
       }
 
-  -- one byte more
-  pub fed_byte_more : (next after : ℕ) → at < length piece → next ≡ fed_byte run filled state (get_or piece at 0) → after ≡ (filled + 1) % 4
-      → Fed run k s (at + 1) piece next after
-  fed_byte_more next after l = fed_more piece (get_or piece at 0 ∷ []) 1 next after (omega arith) (take_more piece at 0 l)
-
-  -- a full block more
-  pub fed_word_more : (next after : ℕ) → AllBytes piece → at + 4 ≤ length piece → filled ≡ 0 → next ≡ bit_xor (run state) (number (take 4 (drop at piece)) * 2 ^ 96) → after ≡ 0
-      → Fed run k s (at + 4) piece next after
-  fed_word_more next after small l e p q =
-      let part : List ℕ = take 4 (drop at piece) in
-      let m : length part ≡ 4 = length-take-le 4 (drop at piece) (rw length-drop (omega arith)) in
-      let b = fed_block run part state (omega arith) (omega arith) (All-take (λ b. b < 256) 4 (drop at piece) (All-drop (λ b. b < 256) at piece small)) in
-      fed_more piece part 4 next after l (take-add at 4 piece) (p ∙ sym b ∙ ap (λ x. fed run x state part) (sym e)) (omega arith)
-
 -- nothing yet, and all of it
 pub fed-none : (run : ℕ → ℕ) (k s : ℕ) (piece : List ℕ) → k < 4 → Fed run k s 0 piece s k
 fed-none run k s piece h = record { within = omega arith; few = h; is = refl; place = omega arith }

@@ -2,16 +2,32 @@
 -- when its first byte comes, and what is left of the last block is marked when the phase ends.
 -- Here s is the state, k the number of bytes in the open block, and `run` what a phase does to the state before each block.
 use Rattle.std.specs.Prelude.{ℕ, ◌+◌, ◌*◌, ◌/◌, ◌%◌, ◌^◌, cond, List, [], ◌∷◌, ◌==◌, bit_xor}
-use Rattle.tinyjambu.specs.Mode.{data_run, text_run}
+use Rattle.engine.specs.Permutation.{rounds, short_rounds, long_rounds}
+use Rattle.tinyjambu.specs.Mode.{frame}
 use Rattle.tinyjambu.specs.declared.phase.Phase.{Phase}
-use Rattle.tinyjambu.specs.declared.phase.Phase.TheVariants.{Data, Text}
+use Rattle.tinyjambu.specs.declared.phase.Phase.TheVariants.{Nonce, Data, Text, FirstTag, LastTag}
 use Rattle.tinyjambu.specs.declared.direction.Direction.{Direction}
 use Rattle.tinyjambu.specs.declared.direction.Direction.TheVariants.{Sealing, Opening}
 
--- the run before each block of a phase
+-- the frame bits of each phase
+abbrev pub frame_bits : Phase → ℕ
+frame_bits Nonce = 1
+frame_bits Data = 3
+frame_bits Text = 5
+frame_bits FirstTag = 7
+frame_bits LastTag = 7
+
+-- how many rounds the run of each phase has
+abbrev pub phase_rounds : Phase → List ℕ → ℕ
+phase_rounds Nonce key = short_rounds
+phase_rounds Data key = short_rounds
+phase_rounds Text key = long_rounds key
+phase_rounds FirstTag key = long_rounds key
+phase_rounds LastTag key = short_rounds
+
+-- the run of a phase: of a nonce word, before each block of data and of text, and for the two halves of the tag
 abbrev pub phase_run : Phase → List ℕ → ℕ → ℕ
-phase_run Data key s = data_run key s
-phase_run Text key s = text_run key s
+phase_run phase key s = rounds key (phase_rounds phase key) (frame (frame_bits phase) s)
 
 -- the state that the next byte meets
 abbrev pub entered : (ℕ → ℕ) → ℕ → ℕ → ℕ

@@ -1,8 +1,9 @@
 -- What the cipher has taken under a key and a nonce, whatever pieces it came in. The state is s, with k bytes in the open block.
 use Rattle.std.specs.Prelude.{◌≡◌, ℕ, ◌%◌, List, ◌++◌, length, take, drop}
-use Rattle.engine.specs.Bytes.{AllBytes}
+use Rattle.engine.specs.Bytes.{AllBytes, joined}
 use Rattle.tinyjambu.specs.Mode.{begun, blocks, absorbed, data_run, text_run, seal}
 use Rattle.tinyjambu.specs.Duplex.{fed}
+use Rattle.tinyjambu.specs.declared.duplex.Duplex.{Duplex}
 
 -- a phase that began at the state `start` has taken the bytes bs
 pub record Took (run : ℕ → ℕ) (start : ℕ) (bs : List ℕ) (s k : ℕ) : Type 0 where
@@ -10,13 +11,13 @@ pub record Took (run : ℕ → ℕ) (start : ℕ) (bs : List ℕ) (s k : ℕ) : 
   pub state : s ≡ fed run 0 start bs
   pub filled : k ≡ length bs % 4
 
--- the associated data ad
-abbrev pub TookData : List ℕ → List ℕ → List ℕ → ℕ → ℕ → Type 0
-TookData key nonce ad s k = Took (data_run key) (begun key nonce) ad s k
+-- a duplex has taken the associated data ad
+abbrev pub TookData : List ℕ → List ℕ → List ℕ → Duplex → Type 0
+TookData key nonce ad d = Took (data_run key) (begun key nonce) ad (joined d.state) d.filled
 
 -- all of the associated data ad, and the text t
-abbrev pub TookText : List ℕ → List ℕ → List ℕ → List ℕ → ℕ → ℕ → Type 0
-TookText key nonce ad t s k = Took (text_run key) (absorbed key (begun key nonce) (blocks ad)) t s k
+abbrev pub TookText : List ℕ → List ℕ → List ℕ → List ℕ → Duplex → Type 0
+TookText key nonce ad t d = Took (text_run key) (absorbed key (begun key nonce) (blocks ad)) t (joined d.state) d.filled
 
 -- the part of the sealed form of t and p joined that stands for p, and the part that stands for no text: the tag
 abbrev pub sealed_piece : List ℕ → List ℕ → List ℕ → List ℕ → List ℕ → List ℕ

@@ -2,12 +2,11 @@ ghost use Rattle.std.specs.Prelude.{◌≡◌, ℕ, ◌+◌, ◌*◌, ◌/◌, �
 ghost use Rattle.engine.specs.Bytes.{joined, word_bytes};
 ghost use Rattle.tinyjambu.specs.Mode.{stream, nonce_word, data_run, text_run, tag};
 ghost use Rattle.tinyjambu.specs.Duplex.{phase_run, entered, fed_byte, sealed_byte, closed, text_of, sealed_of};
-ghost use Rattle.tinyjambu.specs.History.{TookData, TookText, sealed_piece, sealed_tag};
 
 use crate::direction::Direction;
 use crate::little_endian::{load, store};
 use crate::phase::Phase;
-use crate::state::{framed_long_run, framed_short_run, put, stream_word};
+use crate::state::{phase_run, put, stream_word};
 use engine::{Engine, State};
 
 // The cipher under one nonce: the state, and how many bytes are in the open block.
@@ -23,13 +22,15 @@ fn nonce_step<E: Engine>(engine: &mut E, state: State, word: u32) -> State
     ensures state { joined result ≡ nonce_word (E.key engine.old) word (joined state) }
     ensures same { E.key engine.new ≡ E.key engine.old }
 {
-    put(framed_short_run(engine, state, 1), word, 96)
+    put(phase_run(engine, state, Phase::Nonce), word, 96)
 }
 
 impl Duplex {
+    ghost use Rattle.tinyjambu.specs.History.{TookData, TookText, sealed_piece, sealed_tag};
+
     // Takes the key and the nonce.
     pub(crate) fn begin<E: Engine>(engine: &mut E, nonce: [u32; 3]) -> Duplex
-        ensures took { TookData (E.key engine.old) (word_bytes nonce) [] (joined result.state) result.filled }
+        ensures took { TookData (E.key engine.old) (word_bytes nonce) [] result }
         ensures same { E.key engine.new ≡ E.key engine.old }
     {
         let [first, second, third] = nonce;
@@ -47,10 +48,7 @@ impl Duplex {
         ensures same { E.key engine.new ≡ E.key engine.old }
     {
         if self.filled == 0 {
-            self.state = match phase {
-                Phase::Data => framed_short_run(engine, self.state, 3),
-                Phase::Text => framed_long_run(engine, self.state, 5),
-            };
+            self.state = phase_run(engine, self.state, phase);
         }
     }
 
@@ -98,29 +96,32 @@ impl Duplex {
         ensures filled { self.new.filled ≡ 0 }
         ensures same { E.key engine.new ≡ E.key engine.old }
     {
-        self.state = put(framed_short_run(engine, self.state, 3), word, 96);
+        self.state = put(phase_run(engine, self.state, Phase::Data), word, 96);
     }
 
     // Takes a piece of associated data.
     pub(crate) fn absorb<E: Engine>(&mut self, engine: &mut E, piece: &[u8])
-        ensures took { (nonce ad : List ℕ) → TookData (E.key engine.old) nonce ad (joined self.old.state) self.old.filled → TookData (E.key engine.old) nonce (ad ++ piece.now) (joined self.new.state) self.new.filled }
+        ensures took { (nonce ad : List ℕ) → TookData (E.key engine.old) nonce ad self.old → TookData (E.key engine.old) nonce (ad ++ piece.now) self.new }
         ensures same { E.key engine.new ≡ E.key engine.old }
     {
-        let mut at = 0;
-        while at < piece.len() {
-            if self.filled == 0 && piece.len() - at >= 4 {
-                self.absorb_word(engine, load(piece, at));
-                at += 4;
-            } else {
-                self.absorb_byte(engine, piece[at]);
-                at += 1;
-            }
+        let mut left = piece;
+        while let Some((byte, bytes)) = left.split_first() {
+            left = match left.split_first_chunk::<4>() {
+                Some((word, words)) if self.filled == 0 => {
+                    self.absorb_word(engine, u32::from_le_bytes(*word));
+                    words
+                },
+                _ => {
+                    self.absorb_byte(engine, *byte);
+                    bytes
+                },
+            };
         }
     }
 
     // Ends the associated data.
     pub(crate) fn end_data(&mut self)
-        ensures took { (key nonce ad : List ℕ) → TookData key nonce ad (joined self.old.state) self.old.filled → TookText key nonce ad [] (joined self.new.state) self.new.filled }
+        ensures took { (key nonce ad : List ℕ) → TookData key nonce ad self.old → TookText key nonce ad [] self.new }
     {
         self.close();
     }
@@ -146,7 +147,7 @@ impl Duplex {
         ensures filled { self.new.filled ≡ 0 }
         ensures same { E.key engine.new ≡ E.key engine.old }
     {
-        let state = framed_long_run(engine, self.state, 5);
+        let state = phase_run(engine, self.state, Phase::Text);
         let other = word ^ stream_word(state);
         self.state = put(state, direction.text(word, other), 96);
         other
@@ -161,8 +162,8 @@ impl Duplex {
         out: &mut [u8],
     )
         requires { length out.old ≡ length input.now }
-        ensures took { (nonce ad t : List ℕ) → TookText (E.key engine.old) nonce ad t (joined self.old.state) self.old.filled → TookText (E.key engine.old) nonce ad (t ++ text_of direction input.now out.new) (joined self.new.state) self.new.filled }
-        ensures out { (nonce ad t : List ℕ) → TookText (E.key engine.old) nonce ad t (joined self.old.state) self.old.filled → sealed_of direction input.now out.new ≡ sealed_piece (E.key engine.old) nonce ad t (text_of direction input.now out.new) }
+        ensures took { (nonce ad t : List ℕ) → TookText (E.key engine.old) nonce ad t self.old → TookText (E.key engine.old) nonce ad (t ++ text_of direction input.now out.new) self.new }
+        ensures out { (nonce ad t : List ℕ) → TookText (E.key engine.old) nonce ad t self.old → sealed_of direction input.now out.new ≡ sealed_piece (E.key engine.old) nonce ad t (text_of direction input.now out.new) }
         ensures len { length out.new ≡ length input.now }
         ensures same { E.key engine.new ≡ E.key engine.old }
     {
@@ -184,8 +185,8 @@ impl Duplex {
         ensures result { result ≡ tag (E.key engine.old) (joined self.now.state) }
         ensures same { E.key engine.new ≡ E.key engine.old }
     {
-        let middle = framed_long_run(engine, self.state, 7);
-        let end = framed_short_run(engine, middle, 7);
+        let middle = phase_run(engine, self.state, Phase::FirstTag);
+        let end = phase_run(engine, middle, Phase::LastTag);
         let [a, b, c, d] = stream_word(middle).to_le_bytes();
         let [e, f, g, h] = stream_word(end).to_le_bytes();
         [a, b, c, d, e, f, g, h]
@@ -193,7 +194,7 @@ impl Duplex {
 
     // Ends the text, and gives the tag.
     pub(crate) fn tag<E: Engine>(&mut self, engine: &mut E) -> [u8; 8]
-        ensures result { (nonce ad t : List ℕ) → TookText (E.key engine.old) nonce ad t (joined self.old.state) self.old.filled → result ≡ sealed_tag (E.key engine.old) nonce ad t }
+        ensures result { (nonce ad t : List ℕ) → TookText (E.key engine.old) nonce ad t self.old → result ≡ sealed_tag (E.key engine.old) nonce ad t }
         ensures same { E.key engine.new ≡ E.key engine.old }
     {
         self.close();

@@ -23,7 +23,7 @@ fn joined_len(pieces: &[&[u8]]) -> usize
 
 // Takes pieces of associated data.
 fn absorb_pieces<E: Engine>(duplex: &mut Duplex, engine: &mut E, pieces: &[&[u8]])
-    ensures took { (nonce ad : List ℕ) → TookData (E.key engine.old) nonce ad (joined duplex.old.state) duplex.old.filled → TookData (E.key engine.old) nonce (ad ++ message pieces.now) (joined duplex.new.state) duplex.new.filled }
+    ensures took { (nonce ad : List ℕ) → TookData (E.key engine.old) nonce ad duplex.old → TookData (E.key engine.old) nonce (ad ++ message pieces.now) duplex.new }
     ensures same { E.key engine.new ≡ E.key engine.old }
 {
     for piece in pieces {
@@ -34,8 +34,8 @@ fn absorb_pieces<E: Engine>(duplex: &mut Duplex, engine: &mut E, pieces: &[&[u8]
 // Seals pieces of the text, one after another, into `out`, which is as long as they are together.
 fn seal_texts<E: Engine>(duplex: &mut Duplex, engine: &mut E, pieces: &[&[u8]], out: &mut [u8])
     requires { length out.old ≡ length (message pieces.now) }
-    ensures took { (nonce ad : List ℕ) → TookText (E.key engine.old) nonce ad [] (joined duplex.old.state) duplex.old.filled → TookText (E.key engine.old) nonce ad (message pieces.now) (joined duplex.new.state) duplex.new.filled }
-    ensures out { (nonce ad : List ℕ) → TookText (E.key engine.old) nonce ad [] (joined duplex.old.state) duplex.old.filled → out.new ≡ sealed_piece (E.key engine.old) nonce ad [] (message pieces.now) }
+    ensures took { (nonce ad : List ℕ) → TookText (E.key engine.old) nonce ad [] duplex.old → TookText (E.key engine.old) nonce ad (message pieces.now) duplex.new }
+    ensures out { (nonce ad : List ℕ) → TookText (E.key engine.old) nonce ad [] duplex.old → out.new ≡ sealed_piece (E.key engine.old) nonce ad [] (message pieces.now) }
     ensures same { E.key engine.new ≡ E.key engine.old }
 {
     let mut at = 0;

@@ -1,7 +1,9 @@
 ghost use Rattle.std.specs.Prelude.{◌≡◌, ◌*◌, ◌^◌, ◌<◌, bit_xor};
 ghost use Rattle.engine.specs.Bytes.{joined};
-ghost use Rattle.tinyjambu.specs.Mode.{short, long, frame, stream};
+ghost use Rattle.tinyjambu.specs.Mode.{stream};
+ghost use Rattle.tinyjambu.specs.Duplex.{phase_run};
 
+use crate::phase::Phase;
 use engine::{Engine, State, as_number, as_words};
 
 // The state with `bits` xored in from bit `from` upward.
@@ -21,20 +23,15 @@ pub(crate) fn stream_word(state: State) -> u32
     ((as_number(state) >> 64) % (1 << 32)) as u32
 }
 
-// Puts the frame bits into s36 to s38, and does a short run.
-pub(crate) fn framed_short_run<E: Engine>(engine: &mut E, state: State, bits: u32) -> State
-    requires { bits < 8 }
-    ensures state { joined result ≡ short (E.key engine.old) (frame bits (joined state)) }
+// The run of a phase, with its frame bits put into s36 to s38.
+pub(crate) fn phase_run<E: Engine>(engine: &mut E, state: State, phase: Phase) -> State
+    ensures state { joined result ≡ phase_run phase (E.key engine.old) (joined state) }
     ensures same { E.key engine.new ≡ E.key engine.old }
 {
-    engine.short_run(put(state, bits, 36))
-}
-
-// Puts the frame bits into s36 to s38, and does a long run.
-pub(crate) fn framed_long_run<E: Engine>(engine: &mut E, state: State, bits: u32) -> State
-    requires { bits < 8 }
-    ensures state { joined result ≡ long (E.key engine.old) (frame bits (joined state)) }
-    ensures same { E.key engine.new ≡ E.key engine.old }
-{
-    engine.long_run(put(state, bits, 36))
+    let framed = put(state, phase.frame_bits(), 36);
+    // A closure in place of the switch would borrow the engine, and each caller would have to say what it leaves of it.
+    match phase {
+        Phase::Nonce | Phase::Data | Phase::LastTag => engine.short_run(framed),
+        Phase::Text | Phase::FirstTag => engine.long_run(framed),
+    }
 }

@@ -8,7 +8,7 @@ pub struct Wipe<'a> {
 impl Wipe<'_> {
     // Keeps what is in the buffer: there is nothing to wipe any more.
     pub fn keep(self)
-        ensures { self.exit.out.now ≡ self.entry.out.now }
+        ensures { self.exit.0.now ≡ self.entry.out.now }
     {
         let Wipe { out: _ } = self;
     }

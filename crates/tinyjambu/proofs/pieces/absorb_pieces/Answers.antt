@@ -16,8 +16,8 @@ loop-piece-preserved g c =
     let i = c.loop-piece.piece-index in
     let d = c.loop-piece.duplex in
     let e = c.absorb.new.self in
-    let took : (k : List ℕ) → g.E.Engine.key c.loop-piece.engine ≡ k → (nonce ad : List ℕ) → TookData k nonce ad (joined d.state) d.filled
-    → TookData k nonce (ad ++ (get_or ps i nothing).now) (joined e.state) e.filled
+    let took : (k : List ℕ) → g.E.Engine.key c.loop-piece.engine ≡ k → (nonce ad : List ℕ) → TookData k nonce ad d
+    → TookData k nonce (ad ++ (get_or ps i nothing).now) e
     = λ k same. rw same at c.absorb.ensures.took in (
       λ nonce ad h. data_piece key nonce ad ps i _ _ c.loop-piece-test.true (took key same nonce (ad ++ message (take i ps)) (c.loop-piece.invariant.0 nonce ad h)),
       c.absorb.ensures.same ∙ same,

@@ -28,13 +28,13 @@ returns g c =
     let d₁ = c.absorb_pieces.new.duplex in
     let d₂ = c.end_data.new.self in
     let d₃ = c.seal_texts.new.duplex in
-    let absorbs : (n ad₀ : List ℕ) → TookData key n ad₀ (joined d₀.state) d₀.filled → TookData key n (ad₀ ++ ad) (joined d₁.state) d₁.filled
+    let absorbs : (n ad₀ : List ℕ) → TookData key n ad₀ d₀ → TookData key n (ad₀ ++ ad) d₁
     = rw k₁ at c.absorb_pieces.ensures.took in
-    let seals : (n ad : List ℕ) → TookText key n ad [] (joined d₂.state) d₂.filled → TookText key n ad t (joined d₃.state) d₃.filled
+    let seals : (n ad : List ℕ) → TookText key n ad [] d₂ → TookText key n ad t d₃
     = rw k₂ at c.seal_texts.ensures.took in
-    let makes : (n ad : List ℕ) → TookText key n ad [] (joined d₂.state) d₂.filled → c.seal_texts.new.out ≡ sealed_piece key n ad [] t
+    let makes : (n ad : List ℕ) → TookText key n ad [] d₂ → c.seal_texts.new.out ≡ sealed_piece key n ad [] t
     = rw k₂ at c.seal_texts.ensures.out in
-    let tags : (n ad t : List ℕ) → TookText key n ad t (joined d₃.state) d₃.filled → c.tag-tag.result ≡ sealed_tag key n ad t
+    let tags : (n ad t : List ℕ) → TookText key n ad t d₃ → c.tag-tag.result ≡ sealed_tag key n ad t
     = rw k₃ at c.tag-tag.ensures.result in
     let took = c.end_data.ensures.took key n ad (absorbs n [] c.begin-duplex.ensures.took) in
     let text = makes n ad took in

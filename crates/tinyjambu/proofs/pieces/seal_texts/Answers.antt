@@ -33,9 +33,9 @@ loop-piece-preserved g c =
     let n : length out ≡ length c.args.out.now = c.loop-piece.auto.out in
     let d = c.loop-piece.duplex in
     let e = c.crypt.new.self in
-    let took : (k : List ℕ) → g.E.Engine.key c.loop-piece.engine ≡ k → (nonce ad t : List ℕ) → TookText k nonce ad t (joined d.state) d.filled
-    → TookText k nonce ad (t ++ p) (joined e.state) e.filled = λ k same. rw same at c.crypt.ensures.took in
-    let made : (k : List ℕ) → g.E.Engine.key c.loop-piece.engine ≡ k → (nonce ad t : List ℕ) → TookText k nonce ad t (joined d.state) d.filled
+    let took : (k : List ℕ) → g.E.Engine.key c.loop-piece.engine ≡ k → (nonce ad t : List ℕ) → TookText k nonce ad t d
+    → TookText k nonce ad (t ++ p) e = λ k same. rw same at c.crypt.ensures.took in
+    let made : (k : List ℕ) → g.E.Engine.key c.loop-piece.engine ≡ k → (nonce ad t : List ℕ) → TookText k nonce ad t d
     → part ≡ sealed_piece k nonce ad t p = λ k same. rw same at c.crypt.ensures.out in (
       ap (λ n. n + length p) inv.0 ∙ sym (length-append (message (take i ps)) p) ∙ ap length (sym (message_more ps i c.loop-piece-test.true)),
       λ nonce ad h.

@@ -9,6 +9,6 @@ invariant-loop-piece g l =
     let key : List ℕ = g.E.Engine.key l.initial.engine in
     let t : List ℕ = message (take l.piece-index l.pieces) in
     (l.at ≡ length t)
-    × ((nonce ad : List ℕ) → TookText key nonce ad [] (joined l.initial.duplex.state) l.initial.duplex.filled
-    → TookText key nonce ad t (joined l.duplex.state) l.duplex.filled × (take l.at l.out ≡ sealed_piece key nonce ad [] t))
+    × ((nonce ad : List ℕ) → TookText key nonce ad [] l.initial.duplex
+    → TookText key nonce ad t l.duplex × (take l.at l.out ≡ sealed_piece key nonce ad [] t))
     × (g.E.Engine.key l.engine ≡ key)

@@ -41,6 +41,6 @@ returns g c =
     let t : List ℕ = c.recover.new.out in
     let fits : length c.recover.new.out ≡ c.saturating_sub-len.result = c.recover.auto.out ∙ length-take-le (c.saturating_sub-len.result - 0) out (omega arith) ∙ omega arith in
     let some = ap (λ x. opened key x ad s) (sym taken.1) ∙ c.if-not-recover.ensures.text in
-    let kept = c.drop-guard-2.ensures ∙ written_part t t out c.saturating_sub-len.result refl fits in
+    let kept = c.keep.ensures ∙ written_part t t out c.saturating_sub-len.result refl fits in
     let done = opened_by key n ad s out (open_check (length n) (length ad) (length s) (length out)) (Some t) _ _ check some (ap Ok (sym fits)) kept in
     record { answer = done.answer; out = done.bytes; exact = λ _. done.exact; refused = λ e. absurd (both_ways _ (ap is_some check) e); same = c.recover.ensures.same }

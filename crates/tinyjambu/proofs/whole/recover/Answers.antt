@@ -20,13 +20,13 @@ returns g c =
     let d₁ = c.absorb.new.self in
     let d₂ = c.end_data.new.self in
     let d₃ = c.crypt.new.self in
-    let absorbs : (n ad₀ : List ℕ) → TookData key n ad₀ (joined d₀.state) d₀.filled → TookData key n (ad₀ ++ ad) (joined d₁.state) d₁.filled
+    let absorbs : (n ad₀ : List ℕ) → TookData key n ad₀ d₀ → TookData key n (ad₀ ++ ad) d₁
     = rw k₁ at c.absorb.ensures.took in
-    let takes : (n ad t₀ : List ℕ) → TookText key n ad t₀ (joined d₂.state) d₂.filled → TookText key n ad (t₀ ++ t) (joined d₃.state) d₃.filled
+    let takes : (n ad t₀ : List ℕ) → TookText key n ad t₀ d₂ → TookText key n ad (t₀ ++ t) d₃
     = rw k₂ at c.crypt.ensures.took in
-    let makes : (n ad t₀ : List ℕ) → TookText key n ad t₀ (joined d₂.state) d₂.filled → take (length c.args.out.now - 0) s ≡ sealed_piece key n ad t₀ t
+    let makes : (n ad t₀ : List ℕ) → TookText key n ad t₀ d₂ → take (length c.args.out.now - 0) s ≡ sealed_piece key n ad t₀ t
     = rw k₂ at c.crypt.ensures.out in
-    let tags : (n ad t : List ℕ) → TookText key n ad t (joined d₃.state) d₃.filled → c.tag.result ≡ sealed_tag key n ad t
+    let tags : (n ad t : List ℕ) → TookText key n ad t d₃ → c.tag.result ≡ sealed_tag key n ad t
     = rw k₃ at c.tag.ensures.result in
     let took = c.end_data.ensures.took key n ad (absorbs n [] c.begin-duplex.ensures.took) in
     let len : ℕ = length c.args.out.now in

@@ -7,7 +7,7 @@ use Rattle.tinyjambu.proofs.duplex.Duplex.crypt_word.Goals as goal
 
 pub returns : goal.returns
 returns g c =
-    let e = c.framed_long_run-state.ensures in
+    let e = c.phase_run-state.ensures in
     let k = c.stream_word.result in
     let t = text_of c.args.direction c.args.word (bit_xor c.args.word k) in
     record {
