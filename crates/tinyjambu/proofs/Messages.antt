@@ -1,10 +1,12 @@
 -- A message in pieces, one piece more.
-use Rattle.std.proofs.Common.{◌≡◌, ℕ, ◌+◌, ◌-◌, ◌%◌, ◌^◌, ◌<◌, ◌≤◌, min, false, ltb, List, [], ◌∷◌, ◌++◌, length, get_or, take, drop, sym, refl, ap, ◌∙◌, ap₂, append_assoc, append-nil, arith, length-append, Bor}
+use Rattle.std.proofs.Common.{◌≡◌, ℕ, ◌+◌, ◌-◌, ◌%◌, ◌^◌, ◌<◌, ◌≤◌, min, Ok, List, [], ◌∷◌, ◌++◌, length, get_or, take, drop, sym, refl, ap, ◌∙◌, ap₂, append_assoc, append-nil, arith, length-append, Bor}
 use Rattle.std.proofs.ByRecursion.{All-append, All-drop}
 use Rattle.std.proofs.lemmas.List.{take_more, take_all, take-append-drop, drop_at}
 use Rattle.std.proofs.lemmas.Slice.{take-put_mid}
-use Rattle.std.proofs.lemmas.Bool.{ltb-false}
-use Rattle.tinyjambu.specs.Answers.{longest}
+use Rattle.std.proofs.lemmas.Bool.Decides.{nat_tests}
+use Rattle.refusal.specs.declared.refusal.Refusal.{Refusal}
+use Rattle.tinyjambu.specs.Answers.{longest, limit_answer, room_answer}
+use Rattle.std.specs.List.{fold}
 use borrow.Rule.Slice.PartMut.{put_mid}
 use Rattle.engine.specs.Bytes.{AllBytes}
 use Rattle.tinyjambu.specs.History.{sealed_piece}
@@ -44,13 +46,15 @@ end_within ps i at n h e f =
     let m = ap length (message_more ps i h) ∙ length-append (message (take i ps)) (get_or ps i nothing).now in
     omega (arith, message_within ps (i + 1))
 
--- a sum that stops at the largest number
-pub total_more : (ps : List (Bor (List ℕ))) (i : ℕ) (total next : ℕ) → i < length ps
-    → next ≡ min (total + length (get_or ps i nothing).now) (2 ^ 64 - 1) → total ≡ min (length (message (take i ps))) (2 ^ 64 - 1)
-    → next ≡ min (length (message (take (i + 1) ps))) (2 ^ 64 - 1)
-total_more ps i total next h e f =
-    let n = ap length (message_more ps i h) ∙ length-append (message (take i ps)) (get_or ps i nothing).now in
-    omega arith
+-- a sum of lengths that stops at the largest number
+abbrev pub capped : ℕ → Bor (List ℕ) → ℕ
+capped total p = min (total + length p.now) (2 ^ 64 - 1)
+
+pub capped_sum : (ps : List (Bor (List ℕ))) (n : ℕ) → fold capped (min n (2 ^ 64 - 1)) ps ≡ min (n + length (message ps)) (2 ^ 64 - 1)
+capped_sum [] n = omega arith
+capped_sum (p ∷ ps) n =
+    let e : min (min n (2 ^ 64 - 1) + length p.now) (2 ^ 64 - 1) ≡ min (n + length p.now) (2 ^ 64 - 1) = omega arith in
+    ap (λ m. fold capped m ps) e ∙ capped_sum ps (n + length p.now) ∙ omega (arith, length-append p.now (message ps))
 
 module _ (key nonce ad : List ℕ) where
   -- the next piece of the associated data
@@ -86,8 +90,9 @@ module _ (key nonce ad : List ℕ) where
         take-put_mid at (at + length p - at) out part (at + length p) (ap (λ x. at + x) (sym m)) l ∙ ap₂ ◌++◌ e f ∙ sealed_join t p before.small small ∙ ap (sealed_piece key nonce ad []) (sym more),
       )
 
--- a total that passed the test for length is the message's own
-pub passed : (n r : ℕ) → r ≡ min n (2 ^ 64 - 1) → false ≡ ltb longest (0 + r) → (n ≤ longest) × (r ≡ n)
-passed n r e f =
-    let h = ltb-false longest (0 + r) (sym f) in
-    (omega arith, omega arith)
+-- a total that passed the test for length is the message's own, and what passed the test for room has it
+pub limit_passed : (n r : ℕ) (f : Refusal) → r ≡ min n (2 ^ 64 - 1) → Ok tt ≡ limit_answer 0 r f → (n ≤ longest) × (r ≡ n)
+limit_passed n r f e h = grind (arith, nat_tests)
+
+pub room_passed : (room n : ℕ) → Ok tt ≡ room_answer room n → n ≤ room
+room_passed room n h = grind (arith, nat_tests)

@@ -1,12 +1,14 @@
 -- What an opening that recovered t, and compared its tag, has found.
-use Rattle.std.proofs.Common.{◌≡◌, ℕ, ◌+◌, ◌-◌, ◌<◌, ◌≤◌, Bool, true, false, cond, ◌&&◌, eqb, ltb, leb, List, [], ◌∷◌, ◌++◌, length, take, drop, Some, None, Ok, Option, Result, sym, refl, ap, ◌∙◌, ap₂, append-nil, arith, length-drop, take-append-drop}
-use Rattle.std.proofs.lemmas.Bool.{le-leb, le-ltb, ltb-false, eqb-true, cond-true, cond-false}
+use Rattle.std.proofs.Common.{◌≡◌, ℕ, ◌+◌, ◌-◌, ◌<◌, ◌≤◌, Bool, true, false, cond, ◌&&◌, eqb, ltb, leb, List, [], ◌∷◌, ◌++◌, length, take, drop, Some, None, Ok, Err, Option, Result, sym, refl, ap, ◌∙◌, ap₂, append-nil, arith, length-drop, take-append-drop}
+use Rattle.std.specs.Prelude.{if◌then◌else◌, MatchResult}
+use Rattle.std.proofs.lemmas.Bool.Decides.{nat_tests}
+use Rattle.std.proofs.lemmas.Bool.{le-leb, ltb-false, eqb-true, cond-true}
 use Rattle.std.proofs.ByRecursion.{All-take, All-drop}
 use Rattle.std.proofs.lemmas.List.{take_at, drop_at, take_all, drop-drop, length-take-le}
 use Rattle.refusal.specs.declared.fault.Fault.{Fault}
 use Rattle.refusal.specs.declared.refusal.Refusal.{Refusal}
-use Rattle.refusal.specs.declared.refusal.Refusal.TheVariants.{NonceLength, DataTooLong, TextTooLong}
-use Rattle.tinyjambu.specs.Answers.{longest, open_check, opened_answer, opened_out, opened_text_answer, opened_text_out}
+use Rattle.refusal.specs.declared.refusal.Refusal.TheVariants.{NonceLength, DataTooLong, TextTooLong, Broken}
+use Rattle.tinyjambu.specs.Answers.{longest, length_check, open_check, open_refusal, opened_answer, opened_out, opened_text_answer, opened_text_out}
 use Rattle.engine.specs.Bytes.{number, bytes, word_bytes, AllBytes}
 use Rattle.tinyjambu.specs.History.{sealed_piece, sealed_tag}
 use Rattle.tinyjambu.specs.Laws.{Exact}
@@ -69,6 +71,12 @@ module _ (key n ad : List ℕ) where
     none = λ f. absurd (f t ((opened_exactly key n ad c t).0 e));
   }
 
+-- what is opened goes by the test of the tag
+pub tag_decides : (b : Bool) (t : List ℕ) {o : Option (List ℕ)} {r : Result Unit Refusal} → o ≡ (if b then Some t else None) → r ≡ (if b then Ok tt else Err Broken)
+    → MatchResult r (λ _. o ≡ Some t) (λ f. (o ≡ None) × (f ≡ Broken))
+tag_decides true t e f = rw f e
+tag_decides false t e f = rw f (e, refl)
+
 -- a nonce that was taken for three words has their bytes
 pub nonce_taken : (n ws : List ℕ) → AllBytes n → Some ws ≡ nonce_words n → (eqb (length n) 12 ≡ true) × (word_bytes ws ≡ n)
 nonce_taken n ws small e =
@@ -82,24 +90,30 @@ nonce_taken n ws small e =
     let middle : take 4 (drop 4 n) ++ drop 8 n ≡ drop 4 n = ap (λ x. take 4 (drop 4 n) ++ x) (sym (drop-drop 4 4 n)) ∙ take-append-drop 4 (drop 4 n) in
     (p.0, ap word_bytes (sym p.1) ∙ ap₂ ◌++◌ (part 0 (omega arith)) (ap₂ ◌++◌ (part 4 (omega arith)) (ap (λ x. x ++ []) (part 8 (omega arith)) ∙ last) ∙ middle) ∙ take-append-drop 4 n)
 
--- the checks pass
-pub open_check-none : (n ad c room : ℕ) → eqb n 12 ≡ true → ad ≤ longest → c - 8 ≤ longest → 8 ≤ c → c - 8 ≤ room → open_check n ad c room ≡ None
-open_check-none n ad c room e f g h l =
-    cond-true _ _ _ e ∙ cond-false _ _ _ (le-ltb longest ad f) ∙ cond-false _ _ _ (le-ltb longest (c - 8) g) ∙ cond-false _ _ _ (le-ltb c 8 h) ∙ cond-false _ _ _ (le-ltb room (c - 8) l)
-
 -- what an opening owes, once the checks have passed and it is known what there is to open
 pub record Opened (key n ad c out : List ℕ) (check : Option Refusal) (r : Result ℕ Fault) (after : List ℕ) : Type 0 where
   pub answer : r ≡ opened_answer check (opened key n ad c)
   pub bytes : after ≡ opened_out check (opened key n ad c) out
   pub exact : Exact key n ad c r after
+  pub none : check ≡ None
 
-pub opened_by : (key n ad c out : List ℕ) (check : Option Refusal) (o : Option (List ℕ)) (answer : Result ℕ Fault) (after : List ℕ)
-    → check ≡ None → opened key n ad c ≡ o → answer ≡ opened_text_answer o → after ≡ opened_text_out o out → Opened key n ad c out check answer after
-opened_by key n ad c out check o answer after e f g h = record {
-  answer = g ∙ sym (ap₂ opened_answer e f);
-  bytes = h ∙ sym (ap₂ (λ x y. opened_out x y out) e f);
-  exact = rw (g, h) (exact_by key n ad c o out f);
-}
+pub opened_by : (key n ws ad c out : List ℕ) (o : Option (List ℕ)) {answer : Result ℕ Fault} {after : List ℕ} → AllBytes n → nonce_words n ≡ Some ws
+    → length_check (length ad) (length c) (length out) ≡ None → opened key (word_bytes ws) ad c ≡ o → answer ≡ opened_text_answer o → after ≡ opened_text_out o out
+    → Opened key n ad c out (open_refusal n ad c out) answer after
+opened_by key n ws ad c out o small w l f g h =
+    let taken = nonce_taken n ws small (sym w) in
+    let e : open_refusal n ad c out ≡ None = cond-true _ _ _ taken.0 ∙ l in
+    let k : opened key n ad c ≡ o = ap (λ x. opened key x ad c) (sym taken.1) ∙ f in
+    record {
+      answer = g ∙ sym (ap₂ opened_answer e k);
+      bytes = h ∙ sym (ap₂ (λ x y. opened_out x y out) e k);
+      exact = rw (g, h) (exact_by key n ad c o out k);
+      none = e;
+    }
+
+-- what passed the checks of lengths has the room
+pub length_check-room : (ad c room : ℕ) → length_check ad c room ≡ None → c - 8 ≤ room
+length_check-room ad c room e = grind (arith, nat_tests)
 
 -- a text that was opened is 8 bytes shorter
 pub opened-length : (key n ad c t : List ℕ) → opened key n ad c ≡ Some t → length t + 8 ≡ length c

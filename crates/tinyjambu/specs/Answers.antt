@@ -1,14 +1,25 @@
 -- What each call answers, and what it leaves in the out buffer, for all cases.
-use Rattle.std.specs.Prelude.{ℕ, ◌+◌, ◌-◌, cond, List, ◌++◌, length, drop, replicate, Some, None, Ok, Err, Option, Result, ◌==◌, nat_lt}
+use Rattle.std.specs.Prelude.{ℕ, ◌+◌, ◌-◌, List, ◌++◌, length, drop, replicate, Some, None, Ok, Err, Option, Result, ◌==◌, nat_lt, if◌then◌else◌}
 use Rattle.refusal.specs.declared.fault.Fault.{Fault}
 use Rattle.refusal.specs.declared.refusal.Refusal.{Refusal}
 use Rattle.refusal.specs.declared.refusal.Refusal.TheVariants.{NonceLength, DataTooLong, TextTooLong, SealedTooShort, OutTooShort, Broken}
-use Rattle.tinyjambu.specs.Mode.{seal, opened}
+use Rattle.tinyjambu.specs.Mode.{seal, same, opened}
 use Rattle.refusal.specs.Refusals.{outside}
 
 -- the most bytes of associated data, and of text
 abbrev pub longest : ℕ
 longest = 65536
+
+-- a refusal where bytes that were taken and more of them pass the limit, and one where a buffer has too little room
+abbrev pub limit_answer : ℕ → ℕ → Refusal → Result Unit Refusal
+limit_answer taken more refusal = if nat_lt longest (taken + more) then Err refusal else Ok tt
+
+abbrev pub room_answer : ℕ → ℕ → Result Unit Refusal
+room_answer room bytes = if nat_lt room bytes then Err OutTooShort else Ok tt
+
+-- a refusal where the tag that was made is not the one that was given
+abbrev pub tag_answer : List ℕ → List ℕ → Result Unit Refusal
+tag_answer made given = if same made given then Ok tt else Err Broken
 
 -- bytes at the start of a buffer, and the rest of it as it was
 abbrev pub written : List ℕ → List ℕ → List ℕ
@@ -16,26 +27,26 @@ written bytes out = bytes ++ drop (length bytes) out
 
 -- a data piece: so many bytes were taken before, and so many come
 abbrev pub data_answer : ℕ → ℕ → Result Unit Fault
-data_answer taken more = cond (nat_lt longest (taken + more)) (Err (outside DataTooLong)) (Ok tt)
+data_answer taken more = if nat_lt longest (taken + more) then Err (outside DataTooLong) else Ok tt
 
 -- a text piece, with so much room to write it to
 abbrev pub text_answer : ℕ → ℕ → ℕ → Result ℕ Fault
 text_answer taken more room =
-    cond (nat_lt longest (taken + more)) (Err (outside TextTooLong))
-    (cond (nat_lt room more) (Err (outside OutTooShort))
-    (Ok more))
+    if nat_lt longest (taken + more) then Err (outside TextTooLong)
+    else if nat_lt room more then Err (outside OutTooShort)
+    else Ok more
 
 -- what refuses the sealing of so many bytes of data and text into so much room
 abbrev pub message_check : ℕ → ℕ → ℕ → Option Refusal
 message_check ad t room =
-    cond (nat_lt longest ad) (Some DataTooLong)
-    (cond (nat_lt longest t) (Some TextTooLong)
-    (cond (nat_lt room (t + 8)) (Some OutTooShort)
-    None))
+    if nat_lt longest ad then Some DataTooLong
+    else if nat_lt longest t then Some TextTooLong
+    else if nat_lt room (t + 8) then Some OutTooShort
+    else None
 
 -- the same with a nonce of so many bytes
 abbrev pub seal_check : ℕ → ℕ → ℕ → ℕ → Option Refusal
-seal_check n ad t room = cond (n == 12) (message_check ad t room) (Some NonceLength)
+seal_check n ad t room = if n == 12 then message_check ad t room else Some NonceLength
 
 -- a sealing that no check refuses answers the length of the sealed form, and writes it at the start of the buffer; a refused one writes nothing
 abbrev pub sealed_answer : Option Refusal → ℕ → Result ℕ Fault
@@ -61,15 +72,17 @@ abbrev pub seal_out : List ℕ → List ℕ → List ℕ → List ℕ → List �
 seal_out key n ad t out = sealed_out (seal_check (length n) (length ad) (length t) (length out)) (seal key n ad t) out
 
 -- what refuses the opening of so many sealed bytes before the cipher is run
+abbrev pub length_check : ℕ → ℕ → ℕ → Option Refusal
+length_check ad c room =
+    if nat_lt longest ad then Some DataTooLong
+    else if nat_lt longest (c - 8) then Some TextTooLong
+    else if nat_lt c 8 then Some SealedTooShort
+    else if nat_lt room (c - 8) then Some OutTooShort
+    else None
+
+-- the same with a nonce of so many bytes
 abbrev pub open_check : ℕ → ℕ → ℕ → ℕ → Option Refusal
-open_check n ad c room =
-    cond (n == 12)
-    (cond (nat_lt longest ad) (Some DataTooLong)
-    (cond (nat_lt longest (c - 8)) (Some TextTooLong)
-    (cond (nat_lt c 8) (Some SealedTooShort)
-    (cond (nat_lt room (c - 8)) (Some OutTooShort)
-    None))))
-    (Some NonceLength)
+open_check n ad c room = if n == 12 then length_check ad c room else Some NonceLength
 
 -- an opening that no check refuses answers the length of the text, and writes it at the start of the buffer; a refused one leaves only zeros
 abbrev pub opened_text_answer : Option (List ℕ) → Result ℕ Fault

@@ -1,12 +1,27 @@
-ghost use Rattle.std.specs.Prelude.{◌≡◌, ◌+◌, nat_lt};
-ghost use Rattle.tinyjambu.specs.Answers.{longest};
+ghost use Rattle.std.specs.Prelude.{◌≡◌};
+ghost use Rattle.tinyjambu.specs.Answers.{limit_answer, room_answer};
+
+use refusal::Refusal;
 
 // The most bytes of associated data, and of text.
 const LONGEST: usize = 65536;
 
-// Whether `taken` bytes and `more` pass the limit.
-pub(crate) fn too_long(taken: usize, more: usize) -> bool
-    ensures { result ≡ nat_lt longest (taken + more) }
+// Refuses where `taken` bytes and `more` pass the limit.
+pub(crate) fn check_limit(taken: usize, more: usize, refusal: Refusal) -> Result<(), Refusal>
+    ensures { result ≡ limit_answer taken more refusal }
 {
-    more > LONGEST || taken > LONGEST - more
+    if more > LONGEST || taken > LONGEST - more {
+        return Err(refusal);
+    }
+    Ok(())
+}
+
+// Refuses an out buffer that has not the room for so many bytes.
+pub(crate) fn check_room(room: usize, bytes: usize) -> Result<(), Refusal>
+    ensures { result ≡ room_answer room bytes }
+{
+    if room < bytes {
+        return Err(Refusal::OutTooShort);
+    }
+    Ok(())
 }

@@ -1,4 +1,4 @@
-ghost use Rattle.std.specs.Prelude.{◌≡◌, ℕ, ◌-◌, ◌^◌, min, false, List, [], ◌++◌, length, is_ok};
+ghost use Rattle.std.specs.Prelude.{◌≡◌, ℕ, ◌-◌, ◌^◌, min, List, [], ◌++◌, length, OnErr};
 ghost use Rattle.tinyjambu.specs.Answers.{message_answer, message_out};
 ghost use Rattle.engine.specs.Bytes.{joined, word_bytes};
 ghost use Rattle.tinyjambu.specs.History.{TookData, TookText, sealed_piece};
@@ -6,7 +6,7 @@ ghost use Rattle.tinyjambu.specs.Message.{message};
 
 use crate::direction::Direction;
 use crate::duplex::Duplex;
-use crate::limits::too_long;
+use crate::limits::{check_limit, check_room};
 use engine::Engine;
 use refusal::{Fault, Refusal};
 
@@ -14,11 +14,9 @@ use refusal::{Fault, Refusal};
 fn joined_len(pieces: &[&[u8]]) -> usize
     ensures { result ≡ min (length (message pieces.now)) (2 ^ 64 - 1) }
 {
-    let mut total: usize = 0;
-    for piece in pieces {
-        total = total.saturating_add(piece.len());
-    }
-    total
+    pieces
+        .iter()
+        .fold(0, |total: usize, piece| total.saturating_add(piece.len()))
 }
 
 // Takes pieces of associated data.
@@ -57,18 +55,12 @@ pub fn seal_pieces<E: Engine>(
     ensures answer { result ≡ message_answer (message ad.now) (message text.now) out.old }
     ensures out { out.new ≡ message_out (E.key engine.old) (word_bytes nonce) (message ad.now) (message text.now) out.old }
     ensures same { E.key engine.new ≡ E.key engine.old }
-    ensures refused { is_ok result ≡ false → engine.new ≡ engine.old }
+    ensures refused { OnErr result (engine.new ≡ engine.old) }
 {
     let len = joined_len(text);
-    if too_long(0, joined_len(ad)) {
-        return Err(Refusal::DataTooLong.into());
-    }
-    if too_long(0, len) {
-        return Err(Refusal::TextTooLong.into());
-    }
-    if out.len() < len + 8 {
-        return Err(Refusal::OutTooShort.into());
-    }
+    check_limit(0, joined_len(ad), Refusal::DataTooLong)?;
+    check_limit(0, len, Refusal::TextTooLong)?;
+    check_room(out.len(), len + 8)?;
     let mut duplex = Duplex::begin(engine, nonce);
     absorb_pieces(&mut duplex, engine, ad);
     duplex.end_data();

@@ -1,4 +1,4 @@
-ghost use Rattle.std.specs.Prelude.{◌≡◌, ℕ, true, false, List, [], ◌++◌, length, is_ok};
+ghost use Rattle.std.specs.Prelude.{◌≡◌, ℕ, List, [], ◌++◌, length, OnOk, OnErr};
 ghost use Rattle.engine.specs.Bytes.{word_bytes};
 ghost use Rattle.tinyjambu.specs.Answers.{data_answer, text_answer, written};
 ghost use Rattle.tinyjambu.specs.History.{sealed_piece, sealed_tag};
@@ -6,7 +6,7 @@ ghost use Rattle.tinyjambu.specs.Session.{HasData, HasText};
 
 use crate::direction::Direction;
 use crate::duplex::Duplex;
-use crate::limits::too_long;
+use crate::limits::{check_limit, check_room};
 use engine::Engine;
 use refusal::{Fault, Refusal};
 
@@ -44,13 +44,11 @@ impl<E: Engine> Session<E> {
     // Takes a piece of associated data: what was taken before is extended by it.
     pub fn absorb(&mut self, piece: &[u8]) -> Result<(), Fault>
         ensures answer { result ≡ data_answer self.old.taken (length piece.now) }
-        ensures extends { is_ok result ≡ true → (nonce ad : List ℕ) → HasData E.key nonce ad self.old → HasData E.key nonce (ad ++ piece.now) self.new }
+        ensures extends { OnOk result ((nonce ad : List ℕ) → HasData E.key nonce ad self.old → HasData E.key nonce (ad ++ piece.now) self.new) }
         ensures same { E.key self.new.engine ≡ E.key self.old.engine }
-        ensures refused { is_ok result ≡ false → self.new ≡ self.old }
+        ensures refused { OnErr result (self.new ≡ self.old) }
     {
-        if too_long(self.taken, piece.len()) {
-            return Err(Refusal::DataTooLong.into());
-        }
+        check_limit(self.taken, piece.len(), Refusal::DataTooLong)?;
         self.duplex.absorb(&mut self.engine, piece);
         self.taken += piece.len();
         Ok(())
@@ -80,18 +78,14 @@ impl<E: Engine> TextSession<E> {
     // Takes a piece of the text, and writes its part of the joined text's sealed form at the start of `out`.
     pub fn seal(&mut self, piece: &[u8], out: &mut [u8]) -> Result<usize, Fault>
         ensures answer { result ≡ text_answer self.old.taken (length piece.now) (length out.old) }
-        ensures extends { is_ok result ≡ true → (nonce ad t : List ℕ) → HasText E.key nonce ad t self.old → HasText E.key nonce ad (t ++ piece.now) self.new }
-        ensures out { is_ok result ≡ true → (nonce ad t : List ℕ) → HasText E.key nonce ad t self.old → out.new ≡ written (sealed_piece (E.key self.old.engine) nonce ad t piece.now) out.old }
+        ensures extends { OnOk result ((nonce ad t : List ℕ) → HasText E.key nonce ad t self.old → HasText E.key nonce ad (t ++ piece.now) self.new) }
+        ensures out { OnOk result ((nonce ad t : List ℕ) → HasText E.key nonce ad t self.old → out.new ≡ written (sealed_piece (E.key self.old.engine) nonce ad t piece.now) out.old) }
         ensures same { E.key self.new.engine ≡ E.key self.old.engine }
-        ensures refused { is_ok result ≡ false → (self.new ≡ self.old) × (out.new ≡ out.old) }
+        ensures refused { OnErr result ((self.new ≡ self.old) × (out.new ≡ out.old)) }
     {
         let len = piece.len();
-        if too_long(self.taken, len) {
-            return Err(Refusal::TextTooLong.into());
-        }
-        if out.len() < len {
-            return Err(Refusal::OutTooShort.into());
-        }
+        check_limit(self.taken, len, Refusal::TextTooLong)?;
+        check_room(out.len(), len)?;
         let part = &mut out[0..len];
         self.duplex
             .crypt(&mut self.engine, Direction::Sealing, piece, part);

@@ -1,5 +1,6 @@
-ghost use Rattle.std.specs.Prelude.{◌≡◌, ◌+◌, true, false, length, is_some, is_ok, if◌then◌else◌, Some, None};
-ghost use Rattle.tinyjambu.specs.Answers.{seal_answer, seal_out, open_refusal, open_answer, open_out};
+ghost use Rattle.std.specs.Prelude.{◌≡◌, ◌+◌, true, length, is_some, Some, None, OnErr, MatchResult};
+ghost use Rattle.refusal.specs.declared.refusal.Refusal.TheVariants.{NonceLength, Broken};
+ghost use Rattle.tinyjambu.specs.Answers.{seal_answer, seal_out, length_check, tag_answer, open_refusal, open_answer, open_out};
 ghost use Rattle.engine.specs.Bytes.{word_bytes};
 ghost use Rattle.tinyjambu.specs.Nonce.{nonce_words};
 ghost use Rattle.tinyjambu.specs.Mode.{opened, same};
@@ -7,21 +8,21 @@ ghost use Rattle.tinyjambu.specs.Laws.{OpensExactly};
 
 use crate::direction::Direction;
 use crate::duplex::Duplex;
-use crate::limits::too_long;
+use crate::limits::{check_limit, check_room};
 use crate::little_endian::load;
 use crate::pieces::seal_pieces;
 use crate::wipe::Wipe;
 use engine::Engine;
 use refusal::{Fault, Refusal};
 
-// The nonce as three words, if it has twelve bytes.
-fn nonce_words(nonce: &[u8]) -> Option<[u32; 3]>
-    ensures { result ≡ nonce_words nonce.now }
+// The nonce as three words, or refusal 2 if it has not twelve bytes.
+fn nonce_words(nonce: &[u8]) -> Result<[u32; 3], Refusal>
+    ensures { MatchResult result (λ words. nonce_words nonce.now ≡ Some words) (λ refusal. (nonce_words nonce.now ≡ None) × (refusal ≡ NonceLength)) }
 {
     if nonce.len() != 12 {
-        return None;
+        return Err(Refusal::NonceLength);
     }
-    Some([load(nonce, 0), load(nonce, 4), load(nonce, 8)])
+    Ok([load(nonce, 0), load(nonce, 4), load(nonce, 8)])
 }
 
 // Seals a text with its associated data: writes the sealed form at the start of `out`, and answers its length.
@@ -35,12 +36,24 @@ pub fn seal<E: Engine>(
     ensures answer { result ≡ seal_answer nonce.now ad.now text.now out.old }
     ensures out { out.new ≡ seal_out (E.key engine.old) nonce.now ad.now text.now out.old }
     ensures same { E.key engine.new ≡ E.key engine.old }
-    ensures refused { is_ok result ≡ false → engine.new ≡ engine.old }
+    ensures refused { OnErr result (engine.new ≡ engine.old) }
 {
-    let Some(words) = nonce_words(nonce) else {
-        return Err(Refusal::NonceLength.into());
-    };
+    let words = nonce_words(nonce)?;
     seal_pieces(engine, words, &[ad], &[text], out)
+}
+
+// The length of the text of sealed bytes, or what refuses to open them into so much room.
+fn text_len(ad: usize, sealed: usize, room: usize) -> Result<usize, Refusal>
+    ensures { MatchResult result (λ len. (length_check ad sealed room ≡ None) × (len + 8 ≡ sealed)) (λ refusal. length_check ad sealed room ≡ Some refusal) }
+{
+    let len = sealed.saturating_sub(8);
+    check_limit(0, ad, Refusal::DataTooLong)?;
+    check_limit(0, len, Refusal::TextTooLong)?;
+    if sealed < 8 {
+        return Err(Refusal::SealedTooShort);
+    }
+    check_room(room, len)?;
+    Ok(len)
 }
 
 // Whether two tags are the same, without an early exit.
@@ -48,31 +61,43 @@ fn same_tag(made: [u8; 8], given: &[u8]) -> bool
     requires { length given.now ≡ 8 }
     ensures { result ≡ same made given.now }
 {
-    let mut differ: u8 = 0;
-    for i in 0..8usize {
-        differ |= made[i] ^ given[i];
-    }
+    let differ = made
+        .iter()
+        .zip(given)
+        .fold(0, |differ: u8, (one, other)| differ | (one ^ other));
     differ == 0
 }
 
-// Recovers the text of sealed bytes into `out`, which is as long as the text, and says whether the tag is right.
+// Refuses with 13 a tag that is not the one that was made.
+fn check_tag(made: [u8; 8], given: &[u8]) -> Result<(), Refusal>
+    requires { length given.now ≡ 8 }
+    ensures { result ≡ tag_answer made given.now }
+{
+    if same_tag(made, given) {
+        Ok(())
+    } else {
+        Err(Refusal::Broken)
+    }
+}
+
+// Recovers the text of sealed bytes into `out`, which is as long as the text, or refuses it with 13 where the tag is wrong.
 fn recover<E: Engine>(
     engine: &mut E,
     nonce: [u32; 3],
     ad: &[u8],
     sealed: &[u8],
     out: &mut [u8],
-) -> bool
+) -> Result<(), Refusal>
     requires { length out.old + 8 ≡ length sealed.now }
-    ensures text { opened (E.key engine.old) (word_bytes nonce) ad.now sealed.now ≡ (if result then Some out.new else None) }
+    ensures text { MatchResult result (λ _. opened (E.key engine.old) (word_bytes nonce) ad.now sealed.now ≡ Some out.new) (λ refusal. (opened (E.key engine.old) (word_bytes nonce) ad.now sealed.now ≡ None) × (refusal ≡ Broken)) }
     ensures same { E.key engine.new ≡ E.key engine.old }
 {
-    let len = out.len();
+    let (body, given) = sealed.split_at(out.len());
     let mut duplex = Duplex::begin(engine, nonce);
     duplex.absorb(engine, ad);
     duplex.end_data();
-    duplex.crypt(engine, Direction::Opening, &sealed[0..len], out);
-    same_tag(duplex.tag(engine), &sealed[len..len + 8])
+    duplex.crypt(engine, Direction::Opening, body, out);
+    check_tag(duplex.tag(engine), given)
 }
 
 // Opens sealed bytes: writes the text that seals to them at the start of `out`, and answers its length. A refusal leaves only zeros in `out`.
@@ -89,26 +114,10 @@ pub fn open<E: Engine>(
     ensures refused { is_some (open_refusal nonce.now ad.now sealed.now out.old) ≡ true → engine.new ≡ engine.old }
     ensures same { E.key engine.new ≡ E.key engine.old }
 {
-    let mut guard = Wipe { out };
-    let Some(words) = nonce_words(nonce) else {
-        return Err(Refusal::NonceLength.into());
-    };
-    let len = sealed.len().saturating_sub(8);
-    if too_long(0, ad.len()) {
-        return Err(Refusal::DataTooLong.into());
-    }
-    if too_long(0, len) {
-        return Err(Refusal::TextTooLong.into());
-    }
-    if sealed.len() < 8 {
-        return Err(Refusal::SealedTooShort.into());
-    }
-    if guard.out.len() < len {
-        return Err(Refusal::OutTooShort.into());
-    }
-    if !recover(engine, words, ad, sealed, &mut guard.out[0..len]) {
-        return Err(Refusal::Broken.into());
-    }
+    let guard = Wipe { out };
+    let words = nonce_words(nonce)?;
+    let len = text_len(ad.len(), sealed.len(), guard.out.len())?;
+    recover(engine, words, ad, sealed, &mut guard.out[0..len])?;
     guard.keep();
     Ok(len)
 }

@@ -10,7 +10,7 @@ impl Wipe<'_> {
     pub fn keep(self)
         ensures { self.exit.0.now ≡ self.entry.out.now }
     {
-        let Wipe { out: _ } = self;
+        let Wipe { out: _kept } = self;
     }
 }
 

@@ -1,5 +1,4 @@
 use Rattle.std.proofs.Common.{◌≡◌, ℕ, List, ◌++◌, get_or, take, refl, ◌∙◌, append-nil}
-use Rattle.engine.specs.Bytes.{joined}
 use Rattle.tinyjambu.specs.History.{TookData}
 use Rattle.tinyjambu.specs.Message.{message}
 use Rattle.tinyjambu.proofs.Messages.{nothing, data_piece, message_all}

@@ -1,5 +1,4 @@
 use Rattle.std.proofs.Common.{◌≡◌, ℕ, List, ◌++◌, take}
-use Rattle.engine.specs.Bytes.{joined}
 use Rattle.tinyjambu.specs.History.{TookData}
 use Rattle.tinyjambu.specs.Message.{message}
 use Rattle.tinyjambu.proofs.pieces.absorb_pieces.Given as goal

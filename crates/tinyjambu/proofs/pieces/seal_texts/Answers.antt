@@ -1,6 +1,5 @@
 use Rattle.std.proofs.Common.{◌≡◌, ℕ, ◌+◌, ◌≤◌, List, ◌++◌, length, get_or, take, sym, refl, ap, ◌∙◌, arith, length-append}
 use Rattle.std.proofs.lemmas.List.{take_all}
-use Rattle.engine.specs.Bytes.{joined}
 use Rattle.tinyjambu.specs.History.{TookText, sealed_piece}
 use Rattle.tinyjambu.specs.Message.{message}
 use Rattle.tinyjambu.proofs.Messages.{nothing, message_more, message_all, end_within, text_piece}

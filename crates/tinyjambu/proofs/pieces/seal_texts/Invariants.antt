@@ -1,5 +1,4 @@
 use Rattle.std.proofs.Common.{◌≡◌, ℕ, List, [], length, take}
-use Rattle.engine.specs.Bytes.{joined}
 use Rattle.tinyjambu.specs.History.{TookText, sealed_piece}
 use Rattle.tinyjambu.specs.Message.{message}
 use Rattle.tinyjambu.proofs.pieces.seal_texts.Given as goal

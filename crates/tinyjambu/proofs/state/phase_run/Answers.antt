@@ -1,8 +1,6 @@
-use Rattle.std.proofs.Common.{◌≡◌, ℕ, ◌*◌, ◌^◌, ap, ◌∙◌, rules}
-use lib.Bits.{bit_xor}
-use Rattle.engine.specs.Bytes.{joined}
+use Rattle.std.proofs.Common.{◌≡◌, rules}
 use Rattle.engine.specs.Permutation.{short_rounds, long_rounds}
-use Rattle.tinyjambu.specs.Duplex.{phase_rounds, frame_bits}
+use Rattle.tinyjambu.specs.Duplex.{phase_rounds}
 use Rattle.tinyjambu.proofs.States.{phase_ran}
 use Rattle.tinyjambu.proofs.state.phase_run.Goals as goal
 

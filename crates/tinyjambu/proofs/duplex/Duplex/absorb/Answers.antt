@@ -1,9 +1,9 @@
-use Rattle.std.proofs.Common.{◌≡◌, ℕ, ◌+◌, ◌*◌, ◌%◌, ◌^◌, ◌≤◌, List, [], ◌∷◌, length, take, drop, refl, ap, ◌∙◌, ap₂, arith}
+use Rattle.std.proofs.Common.{◌≡◌, ◌+◌, ◌*◌, ◌%◌, ◌^◌, ◌≤◌, length, take, refl, ap, ◌∙◌, ap₂, arith}
 use Rattle.std.proofs.lemmas.List.{nil_from_length}
 use lib.Bits.{bit_xor}
 use Rattle.engine.specs.Bytes.{joined, number}
 use Rattle.tinyjambu.specs.Mode.{data_run}
-use Rattle.tinyjambu.specs.Duplex.{fed_byte, fed}
+use Rattle.tinyjambu.specs.Duplex.{fed_byte}
 use Rattle.tinyjambu.proofs.Histories.{took_more}
 use Rattle.engine.proofs.Joined.{all_bytes, four_at}
 use Rattle.tinyjambu.proofs.Absorbing.{left_byte, left_word}
