@@ -6,7 +6,7 @@ ghost use Rattle.host.specs.Host.{signed, host_seal_answer, host_seal_out, host_
 
 use tinyjambu::{Fault, Key, Wipe, WordEngine};
 
-// The answer as one number: the length, or the refusal's number negated.
+// The answer as one number, as C takes it: the length, or the refusal's number negated.
 fn as_signed(answer: Result<usize, Fault>) -> i64
     requires { IfOk answer (λ n. n < 2 ^ 63) }
     ensures { result ≡ signed answer }
@@ -28,9 +28,7 @@ fn seal_under(
     ensures answer { result ≡ host_seal_answer key.now nonce.now ad.now text.now out.old }
     ensures out { out.new ≡ host_seal_out key.now nonce.now ad.now text.now out.old }
 {
-    let mut filled = Key::new();
-    filled.fill(key)?;
-    let mut engine = WordEngine::new(filled);
+    let mut engine = WordEngine::new(Key::try_from(key)?);
     tinyjambu::seal(&mut engine, nonce, ad, text, out)
 }
 
@@ -45,12 +43,10 @@ fn open_under(
     ensures answer { result ≡ host_open_answer key.now nonce.now ad.now sealed.now out.old }
     ensures out { out.new ≡ host_open_out key.now nonce.now ad.now sealed.now out.old }
 {
-    let mut guard = Wipe { out, kept: false };
-    let mut filled = Key::new();
-    filled.fill(key)?;
-    let mut engine = WordEngine::new(filled);
+    let guard = Wipe { out };
+    let mut engine = WordEngine::new(Key::try_from(key)?);
     let answer = tinyjambu::open(&mut engine, nonce, ad, sealed, guard.out);
-    guard.kept = true;
+    guard.keep();
     answer
 }
 

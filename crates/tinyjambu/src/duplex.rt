@@ -167,6 +167,8 @@ impl Duplex {
         ensures len { length out.new ≡ length input.now }
         ensures same { E.key engine.new ≡ E.key engine.old }
     {
+        // A place that is counted by hand: once a loop lends the rest of `out` on, or writes through an adapter of `iter_mut`, the
+        // check does not know what `out` holds.
         let mut at = 0;
         while at < input.len() {
             if self.filled == 0 && input.len() - at >= 4 {

@@ -12,7 +12,7 @@ mod whole;
 mod wipe;
 
 // What a caller needs of `engine` and `refusal` is passed on here.
-pub use engine::{BitEngine, Engine, Key, WordEngine};
+pub use engine::{BitEngine, Engine, Key, KeySize, WordEngine};
 pub use pieces::seal_pieces;
 pub use refusal::{Fault, Refusal};
 pub use session::{Session, TextSession};
