@@ -1,12 +1,14 @@
 ghost use Rattle.std.specs.Prelude.{◌≡◌, ◌+◌, ◌≤◌, ◌++◌, length, take, drop};
 ghost use Rattle.engine.specs.Bytes.{number, bytes};
 
+use byteorder::{ByteOrder, LittleEndian};
+
 // The word of the four bytes from `at` on, the least byte first.
 pub(crate) fn load(source: &[u8], at: usize) -> u32
     requires { at + 4 ≤ length source.now }
     ensures { result ≡ number (take 4 (drop at source.now)) }
 {
-    u32::from_le_bytes([source[at], source[at + 1], source[at + 2], source[at + 3]])
+    LittleEndian::read_u32(&source[at..])
 }
 
 // Writes the four bytes of a word from `at` on, the least byte first.
@@ -14,5 +16,5 @@ pub(crate) fn store(out: &mut [u8], at: usize, word: u32)
     requires { at + 4 ≤ length out.old }
     ensures { out.new ≡ take at out.old ++ (bytes 4 word ++ drop (at + 4) out.old) }
 {
-    out[at..at + 4].copy_from_slice(&word.to_le_bytes());
+    LittleEndian::write_u32(&mut out[at..at + 4], word);
 }
