@@ -1,6 +1,6 @@
 use std::fmt;
 
-// Bytes that print in hexadecimal, two small digits a byte.
+// Bytes that print in hexadecimal, two small digits a byte. The kit's `hex` makes a text on the heap.
 #[derive(Clone, Copy)]
 pub struct Hex<'a>(pub &'a [u8]);
 
