@@ -2,13 +2,15 @@
 
 mod agreement;
 mod case;
+mod fault;
+mod judge;
 mod key_size;
 mod tally;
-mod verdict;
 
+use crate::fault::CaseFault;
+use crate::judge::judge_block;
 use crate::key_size::KeySize;
 use crate::tally::Tally;
-use crate::verdict::judge_block;
 use anyhow::anyhow;
 use std::fs;
 
@@ -16,16 +18,17 @@ use std::fs;
 fn run_file(rt: &HostRuntime, size: KeySize) -> anyhow::Result<Tally> {
     let text = fs::read_to_string(rt, size.file())?;
     let mut tally = Tally::new();
-    for block in text.split("\n\n") {
-        if block.trim().is_empty() {
-            continue;
+    for block in text.split("\n\n").filter(|block| !block.trim().is_empty()) {
+        let verdict = judge_block(rt.alloc(), size, block);
+        tally.add(verdict.is_ok());
+        match verdict {
+            Ok(()) => {},
+            Err(CaseFault::NoMemory(error)) => return Err(error.into()),
+            Err(fault) => {
+                let count = case::field(block, "Count").unwrap_or("without a number");
+                println!(rt; "case {count}: {fault}")?;
+            },
         }
-        let verdict = judge_block(rt.alloc(), size, block)?;
-        if !verdict.agrees() {
-            let count = case::field(block, "Count").unwrap_or("without a number");
-            println!(rt; "case {count}: {verdict}")?;
-        }
-        tally.add(verdict.agrees());
     }
     let bits = size.bits();
     println!(rt; "TinyJAMBU-{bits}: {tally}")?;
