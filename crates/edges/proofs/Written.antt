@@ -1,9 +1,9 @@
 -- A sealed form that is written in three parts: two pieces of the text, and the tag.
-use Rattle.std.proofs.Common.{◌≡◌, ℕ, ◌+◌, ◌-◌, ◌<◌, ◌≤◌, List, [], ◌++◌, length, take, drop, Ok, sym, refl, ap, ◌∙◌, ap₂, append_assoc, append-nil, arith, length-append, length-drop, take-append-drop}
+use Rattle.std.proofs.Common.{◌≡◌, ℕ, ◌+◌, ◌-◌, ◌<◌, List, [], ◌++◌, length, take, drop, Ok, sym, ap, ◌∙◌, arith, length-append}
 use Rattle.std.proofs.lemmas.Bool.Decides.{nat_tests}
 use borrow.Rule.Slice.PartMut.{put_mid}
+use Rattle.std.proofs.lemmas.Grind.{common_steps}
 use Rattle.std.proofs.ByRecursion.{All-drop}
-use Rattle.std.proofs.lemmas.List.{take_all, take_at, drop_all, drop_at, drop-drop, length-take-le}
 use Rattle.tinyjambu.specs.Answers.{written, text_answer}
 use Rattle.engine.specs.Bytes.{AllBytes}
 use Rattle.tinyjambu.specs.History.{sealed_piece, sealed_tag}
@@ -15,28 +15,16 @@ use Rattle.tinyjambu.proofs.Sealing.{seal-length, length-sealed_tag}
 -- a second piece is written after the first
 second_part : (p₁ p₂ out₀ out₁ tail : List ℕ) (a b m : ℕ) → length p₁ ≡ a → length p₂ ≡ b → out₁ ≡ written p₁ out₀ → m ≡ length out₁ - a
     → tail ≡ written p₂ (take m (drop a out₁)) → put_mid a m out₁ tail ≡ (p₁ ++ p₂) ++ drop (a + b - 0) out₀
-second_part p₁ p₂ out₀ out₁ tail a b m l₁ l₂ o₁ k o₂ =
-    let r : List ℕ = drop a out₀ in
-    let e : out₁ ≡ p₁ ++ r = o₁ ∙ ap (λ x. p₁ ++ drop x out₀) l₁ in
-    let d : drop a out₁ ≡ r = ap (drop a) e ∙ drop_at p₁ r a l₁ in
-    let n : length (drop a out₁) ≤ m = rw length-drop (omega arith) in
-    let t : tail ≡ p₂ ++ drop b r = o₂ ∙ ap₂ (λ x y. p₂ ++ drop x y) l₂ (take_all m (drop a out₁) n ∙ d) in
-    let z : a + b ≡ a + b - 0 = omega arith in
-    ap₂ ◌++◌ (ap (take a) e ∙ take_at p₁ r a l₁) (ap₂ ◌++◌ t (drop_all m (drop a out₁) n) ∙ append-nil (p₂ ++ drop b r))
-    ∙ ap (λ x. p₁ ++ (p₂ ++ x)) (drop-drop b a out₀ ∙ ap (λ x. drop x out₀) z) ∙ sym (append_assoc p₁ p₂ (drop (a + b - 0) out₀))
+second_part p₁ p₂ out₀ out₁ tail a b m l₁ l₂ o₁ k o₂ = grind (arith, common_steps)
 
 -- the three parts make the sealed form of the joined text
 three_parts : (key n ad t u p q tag : List ℕ) → AllBytes t → AllBytes (t ++ u) → p ≡ sealed_piece key n ad [] t → q ≡ sealed_piece key n ad t u
     → tag ≡ sealed_tag key n ad (t ++ u) → (p ++ q) ++ tag ≡ seal key n ad (t ++ u)
-three_parts key n ad t u p q tag small all e f h =
-    let later : AllBytes u = rw (drop_at t u (length t) refl) at (All-drop (λ b. b < 256) (length t) (t ++ u) all) in
-    ap₂ ◌++◌ (ap₂ ◌++◌ e f ∙ sealed_join key n ad t u small later) h ∙ take-append-drop (length (t ++ u)) (seal key n ad (t ++ u))
+three_parts key n ad t u p q tag small all e f h = grind (arith, common_steps, sealed_join key n ad t u, All-drop (λ b. b < 256) (length t) (t ++ u))
 
 -- a piece is sealed to as many bytes
 length_piece : (key n ad t u : List ℕ) → length (sealed_piece key n ad t u) ≡ length u
-length_piece key n ad t u =
-    let e = length-append t u in
-    length-take-le (length u) (drop (length t) (seal key n ad (t ++ u))) (rw (length-drop, seal-length) (omega arith))
+length_piece key n ad t u = grind (arith, common_steps, seal-length)
 
 -- what the three writes leave in the out buffer
 pub all_written : (key n ad t u p q tag out₀ out₁ tail : List ℕ) (a b m : ℕ) → AllBytes t → AllBytes (t ++ u) → a ≡ length t → b ≡ length u
@@ -46,10 +34,9 @@ pub all_written : (key n ad t u p q tag out₀ out₁ tail : List ℕ) (a b m : 
 all_written key n ad t u p q tag out₀ out₁ tail a b m small all ea eb ep eq et o₁ k o₂ =
     let l : length p ≡ a = ap length ep ∙ length_piece key n ad [] t ∙ sym ea in
     let r : length q ≡ b = ap length eq ∙ length_piece key n ad t u ∙ sym eb in
-    let pq : length (p ++ q) ≡ a + b = length-append p q ∙ ap₂ ◌+◌ l r in
-    ap (λ x. put_mid (a + b) (a + b + 8 - (a + b)) x tag) (second_part p q out₀ out₁ tail a b m l r o₁ k o₂)
-    ∙ written-tag (p ++ q) tag out₀ (a + b) pq (ap length et ∙ length-sealed_tag key n ad (t ++ u))
-    ∙ ap (λ x. written x out₀) (three_parts key n ad t u p q tag small all ep eq et)
+    let pq : length (p ++ q) ≡ a + b = omega (arith, length-append p q) in
+    let tagged = written-tag (p ++ q) tag out₀ (a + b) pq (ap length et ∙ length-sealed_tag key n ad (t ++ u)) in
+    rw (second_part p q out₀ out₁ tail a b m l r o₁ k o₂, tagged, three_parts key n ad t u p q tag small all ep eq et)
 
 -- a text piece that is taken answers its length
 pub text_took : (taken more room m : ℕ) → text_answer taken more room ≡ Ok m → m ≡ more

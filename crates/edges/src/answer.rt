@@ -1,14 +1,11 @@
 ghost use Rattle.std.specs.Prelude.{◌≡◌};
-ghost use Rattle.edges.specs.Numbers.{answer_number};
+ghost use Rattle.edges.specs.Answers.{answer_refusal};
 
-use tinyjambu::Fault;
+use tinyjambu::{Fault, Refusal};
 
-// The number of the refusal that an answer is, and 0 where the call was taken.
-pub(crate) fn number_of<T: Drop>(answer: Result<T, Fault>) -> u8
-    ensures { result ≡ answer_number answer }
+// The refusal that an answer is, if the call was not taken.
+pub(crate) fn refusal_of<T: Drop>(answer: Result<T, Fault>) -> Option<Refusal>
+    ensures { result ≡ answer_refusal answer }
 {
-    match answer {
-        Ok(_) => 0,
-        Err(fault) => fault.refusal.into(),
-    }
+    answer.err().map(|fault| fault.refusal)
 }

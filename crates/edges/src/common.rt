@@ -1,5 +1,3 @@
-ghost use Rattle.std.specs.Prelude.{◌≡◌, if◌then◌else◌};
-
 use tinyjambu::{Key, WordEngine};
 
 // The nonce of every test, as bytes and as words.
@@ -13,11 +11,4 @@ pub const BYTES: [u8; 40] = *b"0123456789abcdefghijklmnopqrstuvwxyz+-*/";
 // An engine of the key of zeros.
 pub fn zero_engine() -> WordEngine {
     WordEngine::new(Key::new())
-}
-
-// One of two values, by a flag.
-pub fn either<T: Drop>(flag: bool, yes: T, no: T) -> T
-    ensures { result ≡ (if flag then yes else no) }
-{
-    if flag { yes } else { no }
 }

@@ -1,4 +1,6 @@
-use crate::answer::number_of;
+ghost use Rattle.std.specs.Prelude.{◌≤◌, length};
+
+use crate::answer::refusal_of;
 use crate::common::{BYTES, NONCE, NONCE_WORDS, zero_engine};
 use crate::session_use::{Halves, in_pieces};
 use std::process::Abort;
@@ -7,26 +9,23 @@ use tinyjambu::{Session, seal, seal_pieces};
 // The first 9 of the bytes, as data, and the first 13, as text, sealed at once.
 fn whole(rt: &impl Abort) -> [u8; 21] {
     let mut out = [0u8; 21];
-    assert_eq!(rt;
-        number_of(seal(
-            &mut zero_engine(),
-            &NONCE,
-            &BYTES[0..9],
-            &BYTES[0..13],
-            &mut out,
-        )),
-        0
+    let answer = seal(
+        &mut zero_engine(),
+        &NONCE,
+        &BYTES[0..9],
+        &BYTES[0..13],
+        &mut out,
     );
+    assert_eq!(rt; refusal_of(answer), None);
     out
 }
 
 // Bytes cut in two.
-fn halves<'a>(rt: &impl Abort, bytes: &'a [u8], at: usize) -> Halves<'a> {
-    assert!(rt; at <= bytes.len());
-    Halves {
-        first: &bytes[0..at],
-        second: &bytes[at..],
-    }
+fn halves(bytes: &[u8], at: usize) -> Halves<'_>
+    requires { at ≤ length bytes.now }
+{
+    let (first, second) = bytes.split_at(at);
+    Halves { first, second }
 }
 
 #[test]
@@ -35,11 +34,11 @@ fn a_session_seals_any_halves_as_the_whole(rt: HostRuntime) {
     for ad in 0..10usize {
         for text in 0..14usize {
             let mut out = [0u8; 21];
-            let data = halves(&rt, &BYTES[0..9], ad);
-            let texts = halves(&rt, &BYTES[0..13], text);
+            let data = halves(&BYTES[0..9], ad);
+            let texts = halves(&BYTES[0..13], text);
             assert_eq!(rt;
-                number_of(in_pieces(zero_engine(), NONCE_WORDS, data, texts, &mut out)),
-                0
+                refusal_of(in_pieces(zero_engine(), NONCE_WORDS, data, texts, &mut out)),
+                None
             );
             assert_eq!(rt; out, whole);
         }
@@ -47,18 +46,14 @@ fn a_session_seals_any_halves_as_the_whole(rt: HostRuntime) {
 }
 
 // Seals the message byte by byte.
-fn bytewise(rt: &impl Abort, out: &mut [u8]) -> [u8; 8] {
-    assert!(rt; out.len() == 13);
+fn bytewise(rt: &impl Abort, out: &mut [u8; 13]) -> [u8; 8] {
     let mut session = Session::new(zero_engine(), NONCE_WORDS);
-    for at in 0..9usize {
-        assert_eq!(rt; number_of(session.absorb(&BYTES[at..at + 1])), 0);
+    for piece in BYTES[0..9].chunks(1) {
+        assert_eq!(rt; refusal_of(session.absorb(piece)), None);
     }
     let mut sealing = session.into_text();
-    for at in 0..13usize {
-        assert_eq!(rt;
-            number_of(sealing.seal(&BYTES[at..at + 1], &mut out[at..at + 1])),
-            0
-        );
+    for (piece, room) in BYTES[0..13].chunks(1).zip(out.chunks_mut(1)) {
+        assert_eq!(rt; refusal_of(sealing.seal(piece, room)), None);
     }
     let (tag, _) = sealing.into_tag();
     tag
@@ -82,8 +77,8 @@ fn pieces_seal_as_the_whole(rt: HostRuntime) {
             let data: [&[u8]; 3] = [&BYTES[0..first / 2], &[], &BYTES[first / 2..9]];
             let texts: [&[u8]; 3] = [&BYTES[0..first], &BYTES[first..second], &BYTES[second..13]];
             assert_eq!(rt;
-                number_of(seal_pieces(&mut zero_engine(), NONCE_WORDS, &data, &texts, &mut out)),
-                0
+                refusal_of(seal_pieces(&mut zero_engine(), NONCE_WORDS, &data, &texts, &mut out)),
+                None
             );
             assert_eq!(rt; out, whole);
         }

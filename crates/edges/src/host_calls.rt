@@ -1,3 +1,4 @@
+// The calls for C answer numbers: a length, or a refusal's number below zero.
 use crate::common::{BYTES, NONCE};
 use host::{vurshade_open, vurshade_seal};
 

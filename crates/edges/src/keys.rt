@@ -1,15 +1,13 @@
-use crate::answer::number_of;
-use crate::common::{BYTES, NONCE, either};
+use crate::answer::refusal_of;
+use crate::common::{BYTES, NONCE};
 use std::process::Abort;
-use tinyjambu::{Key, WordEngine, seal};
+use tinyjambu::{Key, Refusal, WordEngine, seal};
 
 // What five bytes are sealed to under a key.
 fn sealed_under(rt: &impl Abort, key: Key) -> [u8; 13] {
     let mut out = [0u8; 13];
-    assert_eq!(rt;
-        number_of(seal(&mut WordEngine::new(key), &NONCE, &[], b"right", &mut out)),
-        0
-    );
+    let answer = seal(&mut WordEngine::new(key), &NONCE, &[], b"right", &mut out);
+    assert_eq!(rt; refusal_of(answer), None);
     out
 }
 
@@ -17,10 +15,13 @@ fn sealed_under(rt: &impl Abort, key: Key) -> [u8; 13] {
 fn only_three_lengths_fill_a_key(rt: HostRuntime) {
     for len in 0..41usize {
         let mut key = Key::new();
-        assert_eq!(rt; number_of(key.fill(b"a key of sixteen")), 0);
+        assert_eq!(rt; refusal_of(key.fill(b"a key of sixteen")), None);
         let before = sealed_under(&rt, key);
-        let taken = len == 16 || len == 24 || len == 32;
-        assert_eq!(rt; number_of(key.fill(&BYTES[0..len])), either(taken, 0, 1));
-        assert_eq!(rt; sealed_under(&rt, key) == before, !taken);
+        let wrong = !matches!(len, 16 | 24 | 32);
+        assert_eq!(rt;
+            refusal_of(key.fill(&BYTES[0..len])),
+            wrong.then_some(Refusal::KeyLength)
+        );
+        assert_eq!(rt; sealed_under(&rt, key) == before, wrong);
     }
 }

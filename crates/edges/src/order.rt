@@ -1,19 +1,27 @@
-use crate::answer::number_of;
-use crate::common::{NONCE_WORDS, either, zero_engine};
+use crate::answer::refusal_of;
+use crate::common::{NONCE_WORDS, zero_engine};
 use std::process::Abort;
 use std::test::Fail;
-use tinyjambu::{Session, open, seal, seal_pieces};
+use tinyjambu::{Refusal, Session, open, seal, seal_pieces};
 
 const ALL: usize = 65545;
+
+// The first refusal of those in order whose flag says that something is wrong.
+fn first_wrong(order: &[(bool, Refusal)]) -> Option<Refusal> {
+    order
+        .iter()
+        .find(|(wrong, _)| *wrong)
+        .map(|(_, refusal)| *refusal)
+}
 
 // Checks what sealing answers to lengths that are wrong where a flag says so.
 fn sealing(rt: &impl Abort, all: &[u8], out: &mut [u8], wrong: [bool; 4]) {
     assert!(rt; all.len() == ALL && out.len() == ALL);
     let [nonce, ad, text, room] = wrong;
-    let nonce_bytes = &all[0..either(nonce, 11, 12)];
-    let ad_bytes = &all[0..either(ad, 65537, 3)];
-    let text_bytes = &all[0..either(text, 65537, 5)];
-    let room_len = text_bytes.len() + either(room, 7, 8);
+    let nonce_bytes = &all[0..if nonce { 11 } else { 12 }];
+    let ad_bytes = &all[0..if ad { 65537 } else { 3 }];
+    let text_bytes = &all[0..if text { 65537 } else { 5 }];
+    let room_len = text_bytes.len() + if room { 7 } else { 8 };
     let answer = seal(
         &mut zero_engine(),
         nonce_bytes,
@@ -21,14 +29,13 @@ fn sealing(rt: &impl Abort, all: &[u8], out: &mut [u8], wrong: [bool; 4]) {
         text_bytes,
         &mut out[0..room_len],
     );
-    assert_eq!(rt;
-        number_of(answer),
-        either(
-            nonce,
-            2,
-            either(ad, 3, either(text, 4, either(room, 12, 0))),
-        )
-    );
+    let order = [
+        (nonce, Refusal::NonceLength),
+        (ad, Refusal::DataTooLong),
+        (text, Refusal::TextTooLong),
+        (room, Refusal::OutTooShort),
+    ];
+    assert_eq!(rt; refusal_of(answer), first_wrong(&order));
 }
 
 #[test]
@@ -51,10 +58,10 @@ fn sealing_refuses_in_order(rt: HostRuntime) -> Result<(), Fail> {
 fn opening(rt: &impl Abort, all: &[u8], out: &mut [u8], sealed: usize, wrong: [bool; 3]) {
     assert!(rt; all.len() == ALL && out.len() == ALL && sealed <= ALL);
     let [nonce, ad, room] = wrong;
-    let nonce_bytes = &all[0..either(nonce, 13, 12)];
-    let ad_bytes = &all[0..either(ad, 65537, 3)];
+    let nonce_bytes = &all[0..if nonce { 13 } else { 12 }];
+    let ad_bytes = &all[0..if ad { 65537 } else { 3 }];
     let text = sealed.saturating_sub(8);
-    let room_len = text.saturating_sub(either(room, 1, 0));
+    let room_len = text.saturating_sub(if room { 1 } else { 0 });
     let answer = open(
         &mut zero_engine(),
         nonce_bytes,
@@ -62,11 +69,15 @@ fn opening(rt: &impl Abort, all: &[u8], out: &mut [u8], sealed: usize, wrong: [b
         &all[0..sealed],
         &mut out[0..room_len],
     );
-    let of_sealed = either(text > 65536, 4, either(sealed < 8, 5, either(room, 12, 13)));
-    assert_eq!(rt;
-        number_of(answer),
-        either(nonce, 2, either(ad, 3, of_sealed))
-    );
+    let order = [
+        (nonce, Refusal::NonceLength),
+        (ad, Refusal::DataTooLong),
+        (text > 65536, Refusal::TextTooLong),
+        (sealed < 8, Refusal::SealedTooShort),
+        (room, Refusal::OutTooShort),
+        (true, Refusal::Broken),
+    ];
+    assert_eq!(rt; refusal_of(answer), first_wrong(&order));
 }
 
 #[test]
@@ -89,9 +100,9 @@ fn opening_refuses_in_order(rt: HostRuntime) -> Result<(), Fail> {
 fn sealing_pieces(rt: &impl Abort, all: &[u8], out: &mut [u8], wrong: [bool; 3]) {
     assert!(rt; all.len() == ALL && out.len() == ALL);
     let [ad, text, room] = wrong;
-    let ad_bytes = &all[0..either(ad, 65536, 3)];
-    let text_bytes = &all[0..either(text, 65536, 4)];
-    let room_len = text_bytes.len() + either(room, 8, 9);
+    let ad_bytes = &all[0..if ad { 65536 } else { 3 }];
+    let text_bytes = &all[0..if text { 65536 } else { 4 }];
+    let room_len = text_bytes.len() + if room { 8 } else { 9 };
     let one = &all[0..1];
     let answer = seal_pieces(
         &mut zero_engine(),
@@ -100,10 +111,12 @@ fn sealing_pieces(rt: &impl Abort, all: &[u8], out: &mut [u8], wrong: [bool; 3])
         &[one, text_bytes],
         &mut out[0..room_len],
     );
-    assert_eq!(rt;
-        number_of(answer),
-        either(ad, 3, either(text, 4, either(room, 12, 0)))
-    );
+    let order = [
+        (ad, Refusal::DataTooLong),
+        (text, Refusal::TextTooLong),
+        (room, Refusal::OutTooShort),
+    ];
+    assert_eq!(rt; refusal_of(answer), first_wrong(&order));
 }
 
 #[test]
@@ -123,26 +136,36 @@ fn sealing_pieces_refuses_in_order(rt: HostRuntime) -> Result<(), Fail> {
 #[test]
 fn a_session_refuses_the_length_before_the_room(rt: HostRuntime) -> Result<(), Fail> {
     let all = vec![in rt.alloc(); 0u8; 65537]?;
-    assert!(rt; all.len() == 65537);
     let mut out = [0u8; 5];
     let mut text = Session::new(zero_engine(), NONCE_WORDS).into_text();
-    assert_eq!(rt; number_of(text.seal(&all, &mut out)), 4);
-    assert_eq!(rt; number_of(text.seal(&all[0..6], &mut out)), 12);
-    assert_eq!(rt; number_of(text.seal(&all[0..5], &mut out)), 0);
-    assert_eq!(rt; number_of(text.seal(&all[0..65532], &mut out)), 4);
-    assert_eq!(rt; number_of(text.seal(&all[0..65531], &mut out)), 12);
+    let steps = [
+        (65537, Some(Refusal::TextTooLong)),
+        (6, Some(Refusal::OutTooShort)),
+        (5, None),
+        (65532, Some(Refusal::TextTooLong)),
+        (65531, Some(Refusal::OutTooShort)),
+    ];
+    for (len, refusal) in steps {
+        assert!(rt; len <= all.len());
+        assert_eq!(rt; refusal_of(text.seal(&all[0..len], &mut out)), refusal);
+    }
     Ok(())
 }
 
 #[test]
 fn a_session_counts_all_of_its_data(rt: HostRuntime) -> Result<(), Fail> {
     let all = vec![in rt.alloc(); 0u8; 65537]?;
-    assert!(rt; all.len() == 65537);
     let mut session = Session::new(zero_engine(), NONCE_WORDS);
-    assert_eq!(rt; number_of(session.absorb(&all)), 3);
-    assert_eq!(rt; number_of(session.absorb(&all[0..65530])), 0);
-    assert_eq!(rt; number_of(session.absorb(&all[0..7])), 3);
-    assert_eq!(rt; number_of(session.absorb(&all[0..6])), 0);
-    assert_eq!(rt; number_of(session.absorb(&all[0..1])), 3);
+    let steps = [
+        (65537, Some(Refusal::DataTooLong)),
+        (65530, None),
+        (7, Some(Refusal::DataTooLong)),
+        (6, None),
+        (1, Some(Refusal::DataTooLong)),
+    ];
+    for (len, refusal) in steps {
+        assert!(rt; len <= all.len());
+        assert_eq!(rt; refusal_of(session.absorb(&all[0..len])), refusal);
+    }
     Ok(())
 }

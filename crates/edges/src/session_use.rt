@@ -1,4 +1,4 @@
-ghost use Rattle.std.specs.Prelude.{◌≡◌, ◌+◌, true, ◌++◌, length, is_ok, IfOk};
+ghost use Rattle.std.specs.Prelude.{◌≡◌, ◌+◌, ◌++◌, length, IfOk, OnOk};
 ghost use Rattle.tinyjambu.specs.Answers.{written};
 ghost use Rattle.engine.specs.Bytes.{word_bytes};
 ghost use Rattle.tinyjambu.specs.Mode.{seal};
@@ -21,7 +21,7 @@ pub(crate) fn in_pieces<E: Engine + Drop>(
     out: &mut [u8],
 ) -> Result<usize, Fault>
     ensures len { IfOk result (λ n. n ≡ length text.entry.first.now + length text.entry.second.now + 8) }
-    ensures out { is_ok result ≡ true → out.new ≡ written (seal (E.key engine) (word_bytes nonce) (ad.entry.first.now ++ ad.entry.second.now) (text.entry.first.now ++ text.entry.second.now)) out.old }
+    ensures out { OnOk result (out.new ≡ written (seal (E.key engine) (word_bytes nonce) (ad.entry.first.now ++ ad.entry.second.now) (text.entry.first.now ++ text.entry.second.now)) out.old) }
 {
     let mut session = Session::new(engine, nonce);
     session.absorb(ad.first)?;

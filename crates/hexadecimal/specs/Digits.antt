@@ -1,5 +1,5 @@
 -- Bytes in hexadecimal.
-use Rattle.std.specs.Prelude.{◌≡◌, ℕ, ◌+◌, ◌-◌, ◌*◌, ◌%◌, ◌<◌, Bool, cond, ◌&&◌, List, length, Some, None, Option, nat_le, slice_index}
+use Rattle.std.specs.Prelude.{◌≡◌, ℕ, ◌+◌, ◌-◌, ◌*◌, ◌%◌, ◌<◌, Bool, if◌then◌else◌, ◌&&◌, List, length, Some, None, Option, nat_le, slice_index}
 use Rattle.hexadecimal.specs.declared.fault.HexFault.{HexFault}
 use Rattle.hexadecimal.specs.declared.fault.HexFault.TheVariants.{OddLength, NotADigit, NoMemory}
 
@@ -9,10 +9,10 @@ between low high b = nat_le low b && nat_le b high
 
 abbrev pub digit_value : ℕ → Option ℕ
 digit_value b =
-    cond (between 48 57 b) (Some (b - 48))
-    (cond (between 65 70 b) (Some (b - 55))
-    (cond (between 97 102 b) (Some (b - 87))
-    None))
+    if between 48 57 b then Some (b - 48)
+    else if between 65 70 b then Some (b - 55)
+    else if between 97 102 b then Some (b - 87)
+    else None
 
 -- the byte of two digits, if both are digits
 abbrev pub both : Option ℕ → Option ℕ → Option ℕ

@@ -8,34 +8,26 @@ use std::alloc::Global;
 fn digit(b: u8) -> Option<u8>
     ensures { result ≡ digit_value b }
 {
-    match b {
-        b'0'..=b'9' => Some(b - b'0'),
-        b'A'..=b'F' => Some(b - b'A' + 10),
-        b'a'..=b'f' => Some(b - b'a' + 10),
-        _ => None,
-    }
+    char::from(b).to_digit(16).map(|value| value as u8)
 }
 
 // The byte of two digits, the high one first.
 fn pair(high: u8, low: u8) -> Option<u8>
     ensures { result ≡ pair_value high low }
 {
-    match (digit(high), digit(low)) {
-        (Some(h), Some(l)) => Some(16 * h + l),
-        _ => None,
-    }
+    Some(16 * digit(high)? + digit(low)?)
 }
 
-// The bytes that a text spells, two digits a byte.
+// The bytes that a text spells, two digits a byte. The kit's `hex` promises less: not that an empty text needs no memory.
 pub fn decode(heap: Global, text: &[u8]) -> Result<Vec<u8>, HexFault>
     ensures { MatchResult result (λ v. Spells text.now v.items) (λ e. Refuses e text.now) }
 {
-    if text.len() % 2 != 0 {
+    let (pairs, []) = text.as_chunks::<2>() else {
         return Err(HexFault::OddLength);
-    }
+    };
     let mut bytes = Vec::new(heap);
-    for i in 0..text.len() / 2 {
-        let Some(byte) = pair(text[2 * i], text[2 * i + 1]) else {
+    for [high, low] in pairs {
+        let Some(byte) = pair(*high, *low) else {
             return Err(HexFault::NotADigit);
         };
         bytes.push(byte)?;

@@ -4,7 +4,7 @@ ghost use Rattle.hexadecimal.specs.declared.fault.HexFault.TheVariants.{NoMemory
 use std::alloc::AllocFailed;
 
 // Why a text is not bytes in hexadecimal.
-#[derive(Drop)]
+#[derive(Clone, Copy, PartialEq, Eq, Debug)]
 pub enum HexFault {
     OddLength,
     NotADigit,

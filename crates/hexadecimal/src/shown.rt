@@ -1,6 +1,6 @@
 use std::fmt;
 
-// Bytes that print in hexadecimal, two small digits a byte.
+// Bytes that print in hexadecimal, two small digits a byte. The kit's `hex` wants the heap or a buffer for them.
 #[derive(Clone, Copy)]
 pub struct Hex<'a>(pub &'a [u8]);
 

@@ -7,10 +7,10 @@ use tape::listing;
 const MOST: u64 = 65537;
 
 // Lists the tape on standard input.
-fn run(rt: &HostRuntime) -> anyhow::Result<()> {
+fn run(rt: &(impl Input + Print + AllocGlobal)) -> anyhow::Result<()> {
     let heap = rt.alloc();
     let mut memory = Vec::new(heap);
-    rt.stdin().take(MOST).read_to_end(&mut memory)?;
+    rt.reader().take(MOST).read_to_end(&mut memory)?;
     let lines = listing(heap, memory)?;
     print!(rt; "{lines}")?;
     Ok(())

@@ -1,30 +1,33 @@
-ghost use Rattle.std.specs.Prelude.{◌≡◌, true, IfOk, Some};
+ghost use Rattle.std.specs.Prelude.{◌≡◌, ◌↔◌, IsTrue, IfOk, length, Some, Ok};
 ghost use Rattle.tinyjambu.specs.Mode.{seal, opened};
 
 use crate::case::Case;
 use std::alloc::{AllocError, Global};
-use tinyjambu::Engine;
+use tinyjambu::{Engine, Fault};
+
+// Whether a call was taken and filled its whole out buffer with these bytes.
+fn gave(answer: Result<usize, Fault>, out: &[u8], bytes: &[u8]) -> bool
+    ensures { IsTrue result ↔ ((answer ≡ Ok (length out.now)) × (out.now ≡ bytes.now)) }
+{
+    answer == Ok(out.len()) && out == bytes
+}
 
 // Whether sealing the text of a case gives exactly its sealed bytes. What the engine writes is left in `out`, which is as long as those.
 fn seals<E: Engine>(engine: &mut E, case: &Case, out: &mut [u8]) -> bool
-    ensures meant { result ≡ true → seal (E.key engine.old) case.now.nonce.items case.now.ad.items case.now.text.items ≡ case.now.sealed.items }
+    ensures meant { IsTrue result → seal (E.key engine.old) case.now.nonce.items case.now.ad.items case.now.text.items ≡ case.now.sealed.items }
     ensures same { E.key engine.new ≡ E.key engine.old }
 {
-    match tinyjambu::seal(engine, &case.nonce, &case.ad, &case.text, out) {
-        Ok(len) => len == out.len() && case.sealed.as_slice() == &*out,
-        Err(_) => false,
-    }
+    let answer = tinyjambu::seal(engine, &case.nonce, &case.ad, &case.text, out);
+    gave(answer, out, &case.sealed)
 }
 
 // Whether opening the sealed bytes of a case gives exactly its text. What the engine writes is left in `out`, which is as long as that.
 fn opens<E: Engine>(engine: &mut E, case: &Case, out: &mut [u8]) -> bool
-    ensures meant { result ≡ true → opened (E.key engine.old) case.now.nonce.items case.now.ad.items case.now.sealed.items ≡ Some case.now.text.items }
+    ensures meant { IsTrue result → opened (E.key engine.old) case.now.nonce.items case.now.ad.items case.now.sealed.items ≡ Some case.now.text.items }
     ensures same { E.key engine.new ≡ E.key engine.old }
 {
-    match tinyjambu::open(engine, &case.nonce, &case.ad, &case.sealed, out) {
-        Ok(len) => len == out.len() && case.text.as_slice() == &*out,
-        Err(_) => false,
-    }
+    let answer = tinyjambu::open(engine, &case.nonce, &case.ad, &case.sealed, out);
+    gave(answer, out, &case.text)
 }
 
 // Whether a case agrees with an engine of its key, both ways.
@@ -33,8 +36,8 @@ pub(crate) fn agrees<E: Engine>(
     engine: &mut E,
     case: &Case,
 ) -> Result<bool, AllocError>
-    ensures sealed { IfOk result (λ b. b ≡ true → seal (E.key engine.old) case.now.nonce.items case.now.ad.items case.now.text.items ≡ case.now.sealed.items) }
-    ensures opened { IfOk result (λ b. b ≡ true → opened (E.key engine.old) case.now.nonce.items case.now.ad.items case.now.sealed.items ≡ Some case.now.text.items) }
+    ensures sealed { IfOk result (λ b. IsTrue b → seal (E.key engine.old) case.now.nonce.items case.now.ad.items case.now.text.items ≡ case.now.sealed.items) }
+    ensures opened { IfOk result (λ b. IsTrue b → opened (E.key engine.old) case.now.nonce.items case.now.ad.items case.now.sealed.items ≡ Some case.now.text.items) }
 {
     let mut sealed = vec![in heap; 0u8; case.sealed.len()]?;
     let mut text = vec![in heap; 0u8; case.text.len()]?;

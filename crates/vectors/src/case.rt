@@ -1,5 +1,6 @@
-use hexadecimal::{HexFault, decode};
-use std::alloc::{AllocError, Global};
+use crate::fault::CaseFault;
+use hexadecimal::decode;
+use std::alloc::Global;
 
 // A case: inputs that the designers published, and the output that was computed for them.
 #[derive(Drop)]
@@ -13,52 +14,28 @@ pub struct Case {
 
 // What is written after `name = ` in a block of lines, in its first line of that name.
 pub(crate) fn field<'a>(block: &'a str, name: &str) -> Option<&'a str> {
-    for line in block.lines() {
-        if let Some((left, right)) = line.split_once('=') {
-            if left.trim() == name {
-                return Some(right.trim());
-            }
-        }
-    }
-    None
+    block
+        .lines()
+        .filter_map(|line| line.split_once('='))
+        .find(|(left, _)| left.trim() == name)
+        .map(|(_, right)| right.trim())
 }
 
 // The bytes of a field, if it is there and in hexadecimal.
-fn bytes(heap: Global, block: &str, name: &str) -> Result<Option<Vec<u8>>, AllocError> {
-    let Some(text) = field(block, name) else {
-        return Ok(None);
-    };
-    match decode(heap, text.as_bytes()) {
-        Ok(bytes) => Ok(Some(bytes)),
-        Err(HexFault::NoMemory) => Err(AllocError),
-        Err(_) => Ok(None),
-    }
+fn bytes(heap: Global, block: &str, name: &str) -> Result<Vec<u8>, CaseFault> {
+    let text = field(block, name).ok_or(CaseFault::Malformed)?;
+    Ok(decode(heap, text.as_bytes())?)
 }
 
 impl Case {
     // The case that a block of lines holds, if it is well formed.
-    pub(crate) fn read(heap: Global, block: &str) -> Result<Option<Case>, AllocError> {
-        let Some(key) = bytes(heap, block, "Key")? else {
-            return Ok(None);
-        };
-        let Some(nonce) = bytes(heap, block, "Nonce")? else {
-            return Ok(None);
-        };
-        let Some(text) = bytes(heap, block, "PT")? else {
-            return Ok(None);
-        };
-        let Some(ad) = bytes(heap, block, "AD")? else {
-            return Ok(None);
-        };
-        let Some(sealed) = bytes(heap, block, "CT")? else {
-            return Ok(None);
-        };
-        Ok(Some(Case {
-            key,
-            nonce,
-            text,
-            ad,
-            sealed,
-        }))
+    pub(crate) fn read(heap: Global, block: &str) -> Result<Case, CaseFault> {
+        Ok(Case {
+            key: bytes(heap, block, "Key")?,
+            nonce: bytes(heap, block, "Nonce")?,
+            text: bytes(heap, block, "PT")?,
+            ad: bytes(heap, block, "AD")?,
+            sealed: bytes(heap, block, "CT")?,
+        })
     }
 }

@@ -2,30 +2,34 @@
 
 mod agreement;
 mod case;
+mod fault;
+mod judge;
 mod key_size;
 mod tally;
-mod verdict;
 
+use crate::fault::CaseFault;
+use crate::judge::judge_block;
 use crate::key_size::KeySize;
 use crate::tally::Tally;
-use crate::verdict::judge_block;
-use anyhow::anyhow;
+use anyhow::ensure;
 use std::fs;
+use std::rt::Files;
 
 // Runs the cases of one file, names each that does not agree, and prints how many do.
-fn run_file(rt: &HostRuntime, size: KeySize) -> anyhow::Result<Tally> {
+fn run_file(rt: &(impl Files + Print + AllocGlobal), size: KeySize) -> anyhow::Result<Tally> {
     let text = fs::read_to_string(rt, size.file())?;
     let mut tally = Tally::new();
-    for block in text.split("\n\n") {
-        if block.trim().is_empty() {
-            continue;
+    for block in text.split("\n\n").filter(|block| !block.trim().is_empty()) {
+        let verdict = judge_block(rt.alloc(), size, block);
+        tally.add(verdict.is_ok());
+        match verdict {
+            Ok(()) => {},
+            Err(CaseFault::NoMemory(error)) => return Err(error.into()),
+            Err(fault) => {
+                let count = case::field(block, "Count").unwrap_or("without a number");
+                println!(rt; "case {count}: {fault}")?;
+            },
         }
-        let verdict = judge_block(rt.alloc(), size, block)?;
-        if !verdict.agrees() {
-            let count = case::field(block, "Count").unwrap_or("without a number");
-            println!(rt; "case {count}: {verdict}")?;
-        }
-        tally.add(verdict.agrees());
     }
     let bits = size.bits();
     println!(rt; "TinyJAMBU-{bits}: {tally}")?;
@@ -33,16 +37,13 @@ fn run_file(rt: &HostRuntime, size: KeySize) -> anyhow::Result<Tally> {
 }
 
 // Runs the three files, and fails where a case does not agree.
-fn run(rt: &HostRuntime) -> anyhow::Result<()> {
+fn run(rt: &(impl Files + Print + AllocGlobal)) -> anyhow::Result<()> {
     let mut all_agree = true;
     for size in [KeySize::Bits128, KeySize::Bits192, KeySize::Bits256] {
         all_agree &= run_file(rt, size)?.all_agree();
     }
-    if all_agree {
-        Ok(())
-    } else {
-        Err(anyhow!("some cases do not agree"))
-    }
+    ensure!(all_agree, "some cases do not agree");
+    Ok(())
 }
 
 fn main(rt: HostRuntime) -> anyhow::Result<()> {
