@@ -6,7 +6,6 @@ mod copying;
 mod extent;
 mod judging;
 mod lines;
-mod span;
 mod tape;
 mod writing;
 

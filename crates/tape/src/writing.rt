@@ -25,9 +25,9 @@ pub(crate) fn write_entry(memory: &mut [u8], extent: Extent, text: &[u8]) -> Ext
     let count = extent.count + 1;
     let begin = extent.end;
     let end = begin + text.len();
-    let at = memory.len() - 4 * count;
+    let at = memory.len() - 4 * count as usize;
     copy_entry(&mut memory[begin..end], text);
     write_word(memory, at, end as u32);
-    write_word(memory, 4, count as u32);
+    write_word(memory, 4, count);
     Extent { count, end }
 }
