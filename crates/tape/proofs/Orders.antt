@@ -1,12 +1,12 @@
 -- The test for order, and the relation that it decides.
-use Rattle.std.proofs.Common.{◌≡◌, ℕ, zero, suc, ◌+◌, ◌-◌, ◌*◌, ◌<◌, ◌≤◌, Bool, true, false, eqb, leb, List, length, Some, None, Ok, Err, Result, sym, refl, ap, ◌∙◌, ⊎_elim, add-one, arith}
-use Rattle.std.proofs.lemmas.Bool.{and_parts, and_from, and_left, and_right, cases_lt, cond-true, cond-false, cond_both, eq-eqb, leb-true, le-leb}
+use Rattle.std.proofs.Common.{◌≡◌, ℕ, zero, suc, ◌+◌, ◌-◌, ◌*◌, ◌<◌, ◌≤◌, Bool, true, false, leb, List, length, Some, None, Ok, Err, Result, sym, refl, ap, ◌∙◌, ⊎_elim, add-one, arith}
+use Rattle.std.proofs.lemmas.Bool.{and_from, and_left, and_right, cases_lt, cond-true, cond-false, cond_both, eq-eqb, le-leb}
 use Rattle.std.specs.Result.{result_ok}
 use Rattle.refusal.specs.declared.refusal.Refusal.{Refusal}
 use Rattle.refusal.specs.declared.refusal.Refusal.TheVariants.{TapeLength, TapeDisorder}
 use Rattle.roll.proofs.Rolls.{none_some}
 use Rattle.tape.specs.declared.extent.Extent.{Extent}
-use Rattle.tape.specs.Tape.{begin_of, end_of, size_of, first_of, count_of, last_end, InOrder, every, entry_ordered, tape_length, header_ordered, in_order}
+use Rattle.tape.specs.Tape.{begin_of, end_of, count_of, last_end, InOrder, every, entry_ordered, tape_length, header_ordered, in_order}
 use Rattle.tape.specs.TapeLaws.{ordered}
 use Rattle.tape.specs.Judged.{extent_of, judged, judgement}
 
@@ -54,13 +54,6 @@ module _ (memory : List ℕ) where
   unfolding in_order
   fails_end e = and_right (tape_length (length memory)) _ (and_right (header_ordered memory) _ (and_right (every (entry_ordered memory) (count_of memory)) _ e))
 
-  -- under a header in order the ends of the entries have room
-  pub header_room : header_ordered memory ≡ true → 16 + 4 * count_of memory ≤ length memory
-  header_room e =
-      let size = and_parts (eqb (size_of memory) (length memory)) _ e in
-      let first = and_parts (eqb (first_of memory) 16) _ size.1 in
-      leb-true _ _ (and_parts (leb (count_of memory) 4095) _ first.1).1
-
   -- a loop that has gone through all entries has the end of the last
   pub gone : (i n end : ℕ) → n ≤ i → i ≤ n → n ≡ count_of memory → end ≡ begin_of memory i → (i ≡ count_of memory) × (end ≡ last_end memory)
   gone i n end l u c e = let all : i ≡ count_of memory = omega arith in (all, e ∙ ap (begin_of memory) all)
@@ -73,10 +66,7 @@ module _ (memory : List ℕ) where
       (every-each (entry_ordered memory) (count_of memory) (λ i h. and_from _ _ (le-leb _ _ (o.rising i h)) (le-leb _ _ (o.small i h))))
       (le-leb _ _ o.apart)
 
-  -- each answer of a judgement
-  pub judged_long : tape_length (length memory) ≡ false → judgement memory ≡ Err TapeLength
-  judged_long e = cond-false _ _ _ e
-
+  -- a judgement of a memory that is long enough and not too long
   pub judged_ill : tape_length (length memory) ≡ true → in_order memory ≡ false → judgement memory ≡ Err TapeDisorder
   judged_ill t f = cond-true _ _ _ t ∙ cond-false _ _ _ f
 

@@ -3,6 +3,7 @@ ghost use Rattle.tape.specs.Tape.{word, begin_of, end_of, tape_length, header_or
 ghost use Rattle.tape.specs.Judged.{judgement};
 
 use crate::extent::Extent;
+use byteorder::{ByteOrder, LittleEndian};
 use tinyjambu::Refusal;
 
 // The length of the header, behind which the first entry begins.
@@ -22,7 +23,7 @@ pub(crate) fn word(memory: &[u8], at: usize) -> u32
     requires { at + 4 ≤ length memory.now }
     ensures { result ≡ word at memory.now }
 {
-    u32::from_le_bytes([memory[at], memory[at + 1], memory[at + 2], memory[at + 3]])
+    LittleEndian::read_u32(&memory[at..])
 }
 
 // Where an entry ends.

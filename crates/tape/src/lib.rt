@@ -2,7 +2,6 @@
 
 mod blanking;
 mod checking;
-mod copying;
 mod extent;
 mod judging;
 mod lines;

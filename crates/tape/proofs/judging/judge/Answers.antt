@@ -2,11 +2,8 @@ use Rattle.std.proofs.Common.{ℕ, ◌+◌, ◌<◌, ◌&&◌, leb, List, Ok, sy
 use Rattle.std.proofs.lemmas.Bool.{le-leb, lt-leb}
 use Rattle.tape.specs.Tape.{count_of, every, entry_ordered}
 use Rattle.tape.specs.declared.extent.Extent.{Extent}
-use Rattle.tape.proofs.Orders.{begin_next, every_more, gone, header_room, passes, fails_header, fails_entry, fails_end, judged_long, judged_ill, judged_well}
+use Rattle.tape.proofs.Orders.{begin_next, every_more, gone, passes, fails_header, fails_entry, fails_end, judged_ill, judged_well}
 use Rattle.tape.proofs.judging.judge.Goals as goal
-
-pub returns-then-not-is_tape_length : goal.returns-then-not-is_tape_length
-returns-then-not-is_tape_length c = sym (judged_long c.args.memory.now (sym c.if-not-is_tape_length.ensures))
 
 pub returns-then-not-header_ordered : goal.returns-then-not-header_ordered
 returns-then-not-header_ordered c =
@@ -29,9 +26,6 @@ loop-entry-preserved c =
       c.end_of-next.ensures ∙ sym (begin_next memory i),
       every_more (entry_ordered memory) i (sym tested ∙ sym c.if-not-entry_ordered.ensures) c.loop-entry.invariant.1,
     )
-
-pub overflow_sub-len : goal.overflow_sub-len
-overflow_sub-len c = omega (arith, header_room c.args.memory.now (sym c.if-not-header_ordered.ensures), c.word-count.ensures)
 
 pub returns-then-end-len : goal.returns-then-end-len
 returns-then-end-len c =
