@@ -1,5 +1,5 @@
 -- What a pocket means: 64 pages of 64 bytes, in which each entry begins on a page of its own.
-use Rattle.std.specs.Prelude.{ℕ, ◌+◌, ◌-◌, ◌*◌, ◌/◌, max, cond, List, [], ◌∷◌, ◌++◌, length, take, drop, nat_lt}
+use Rattle.std.specs.Prelude.{ℕ, ◌+◌, ◌-◌, ◌*◌, ◌/◌, max, if◌then◌else◌, List, [], ◌∷◌, ◌++◌, length, take, drop, nat_lt, sum_by}
 use Rattle.roll.specs.Memory.{written}
 use Rattle.roll.specs.Roll.{Meaning, Entry, text, Put}
 
@@ -9,8 +9,7 @@ paged n = 64 * max 1 ((n + 63) / 64)
 
 -- what entries of these lengths take together
 abbrev pub paged_all : List ℕ → ℕ
-paged_all [] = 0
-paged_all (n ∷ ns) = paged n + paged_all ns
+paged_all ns = sum_by paged ns
 
 -- the entries of these lengths, of which the first begins at a place of the bytes
 abbrev pub entries_at : List ℕ → ℕ → List ℕ → List Entry
@@ -19,7 +18,7 @@ entries_at bytes at (n ∷ ns) = text (take n (drop at bytes)) ∷ entries_at by
 
 -- what an entry costs: its pages, where it is short enough
 abbrev pub pocket_charge : ℕ → ℕ
-pocket_charge n = cond (nat_lt n 513) (paged n) 0
+pocket_charge n = if nat_lt n 513 then paged n else 0
 
 -- a pocket with a name, its bytes, and the lengths of its entries
 abbrev pub pocket : ℕ → List ℕ → List ℕ → Meaning

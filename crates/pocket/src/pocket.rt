@@ -1,8 +1,12 @@
-ghost use Rattle.std.specs.Prelude.{◌≡◌, ◌<◌, ◌≤◌, [], length, take, replicate, refl};
+ghost use Rattle.std.specs.Prelude.{◌≡◌, ◌+◌, ◌<◌, ◌≤◌, [], length, take, replicate, refl, slice_index, OnOk, IfOk, OnErr, IfErr};
+ghost use Rattle.refusal.specs.Refusals.{fault};
+ghost use Rattle.refusal.specs.declared.refusal.Refusal.TheVariants.{NoEntry};
 ghost use Rattle.pocket.specs.Pocket.{paged, paged_all, pocket, pocket_put, pocket_writes};
-ghost use Rattle.pocket.specs.PocketLaws.{pocket_lawful, pocket_puts, few_taken};
+ghost use Rattle.pocket.specs.PocketLaws.{pocket_lawful, pocket_puts};
 
+use arrayvec::ArrayVec;
 use roll::Roll;
+use std::ops::Range;
 use tinyjambu::{Fault, Refusal, Wipe};
 
 // A roll on 64 pages of 64 bytes of its own, in which each entry begins on a page of its own.
@@ -10,12 +14,9 @@ use tinyjambu::{Fault, Refusal, Wipe};
 pub struct Pocket {
     name: u32,
     bytes: [u8; 4096],
-    lengths: [u32; 64],
-    count: usize,
-    ghost few: { count ≤ 64 },
-    ghost rows: { length lengths ≡ 64 },
+    lengths: ArrayVec<u32, 64>,
     ghost whole: { length bytes ≡ 4096 },
-    ghost fits: { paged_all (take count lengths) ≤ 4096 },
+    ghost fits: { paged_all lengths.items ≤ 4096 },
 }
 
 // The floor number of a bottom.
@@ -25,60 +26,69 @@ const FLOOR: u32 = 0;
 const BOUND: u32 = 513;
 
 // The bytes of the pages that an entry takes, which is at least one.
-fn paged(len: usize) -> usize
-    requires { len ≤ 4096 }
+fn paged(len: u32) -> usize
     ensures { result ≡ paged len }
 {
-    64 * ((len + 63) / 64).max(1)
+    64 * (len as usize).div_ceil(64).max(1)
+}
+
+// The bytes of the pages that entries of these lengths take, where the next entry begins.
+fn paged_all(lengths: &[u32]) -> usize
+    requires { paged_all lengths.now ≤ 4096 }
+    ensures { result ≡ paged_all lengths.now }
+{
+    lengths.iter().map(|&len| paged(len)).sum()
 }
 
 impl Pocket {
     // An empty pocket under a name.
     pub fn new(name: u32) -> Pocket
-        ensures empty { pocket result.name result.bytes (take result.count result.lengths) ≡ pocket name (replicate 4096 0) [] }
-        ensures blank { result.bytes ≡ replicate 4096 0 }
+        ensures empty { ⟦<Pocket as Roll>⟧.meaning result ≡ pocket name (replicate 4096 0) [] }
+        ensures blank { ⟦<Pocket as Roll>⟧.image result ≡ replicate 4096 0 }
     {
         Pocket {
             name,
             bytes: [0; 4096],
-            lengths: [0; 64],
-            count: 0,
+            lengths: ArrayVec::new(),
         }
     }
 
-    // Where an entry begins: behind the pages of those before it.
-    fn start(&self, entry: usize) -> usize
-        requires { entry ≤ self.now.count }
-        ensures { result ≡ paged_all (take entry self.now.lengths) }
+    // Where the bytes of an entry stand, or refusal 8.
+    fn place(&self, entry: u32) -> Result<Range<usize>, Fault>
+        ensures found { OnOk result (entry < length self.now.lengths.items) }
+        ensures start { IfOk result (λ place. place.start ≡ paged_all (take entry self.now.lengths.items)) }
+        ensures end { IfOk result (λ place. place.end ≡ place.start + slice_index self.now.lengths.items entry) }
+        ensures missing { OnErr result (length self.now.lengths.items ≤ entry) }
+        ensures refusal { IfErr result (λ f. f ≡ fault NoEntry 0 entry) }
     {
-        let mut at = 0;
-        for i in 0..entry {
-            at += paged(self.lengths[i] as usize);
-        }
-        at
+        let Some(&len) = self.lengths.get(entry as usize) else {
+            return Err(Refusal::NoEntry.at(FLOOR, entry));
+        };
+        let start = paged_all(&self.lengths[..entry as usize]);
+        Ok(start..start + len as usize)
     }
 }
 
 impl Roll for Pocket {
-    ghost meaning = { λ s. pocket s.name s.bytes (take s.count s.lengths) };
+    ghost meaning = { λ s. pocket s.name s.bytes s.lengths.items };
 
-    ghost bottom = { λ s. pocket s.name s.bytes (take s.count s.lengths) };
+    ghost bottom = { λ s. pocket s.name s.bytes s.lengths.items };
 
     ghost layers = { λ s. [] };
 
     ghost image = { λ s. s.bytes };
 
-    ghost put = { λ s t. pocket_put s.bytes (take s.count s.lengths) t };
+    ghost put = { λ s t. pocket_put s.bytes s.lengths.items t };
 
     ghost writes = { pocket_writes };
 
     ghost stands = { λ s. refl };
 
-    ghost lawful = { λ s. pocket_lawful s.name s.bytes (take s.count s.lengths) s.whole (few_taken s.count s.lengths s.few) };
+    ghost lawful = { λ s. pocket_lawful s.name s.bytes s.lengths.items s.whole s.fits };
 
-    ghost lawful_top = { λ s. pocket_lawful s.name s.bytes (take s.count s.lengths) s.whole (few_taken s.count s.lengths s.few) };
+    ghost lawful_top = { λ s. pocket_lawful s.name s.bytes s.lengths.items s.whole s.fits };
 
-    ghost puts = { λ s t. pocket_puts s.name s.bytes (take s.count s.lengths) t s.fits };
+    ghost puts = { λ s t. pocket_puts s.name s.bytes s.lengths.items t s.fits };
 
     fn name(&self) -> u32 {
         self.name
@@ -93,75 +103,44 @@ impl Roll for Pocket {
     }
 
     fn space(&self) -> u32 {
-        4096 - self.start(self.count) as u32
+        4096 - paged_all(&self.lengths) as u32
     }
 
     fn count(&self) -> u32 {
-        self.count as u32
+        self.lengths.len() as u32
     }
 
     fn charge(&self, n: u32) -> u32 {
-        if n < BOUND {
-            paged(n as usize) as u32
-        } else {
-            0
-        }
+        if n < BOUND { paged(n) as u32 } else { 0 }
     }
 
     fn length(&self, entry: u32) -> Result<usize, Fault> {
-        if entry as usize >= self.count {
-            return Err(Fault {
-                refusal: Refusal::NoEntry,
-                floor: FLOOR,
-                entry,
-            });
-        }
-        Ok(self.lengths[entry as usize] as usize)
+        Ok(self.place(entry)?.len())
     }
 
     fn append(&mut self, text: &[u8]) -> Result<u32, Fault> {
-        let entry = self.count as u32;
+        let entry = self.count();
         let len = text.len();
         if len >= BOUND as usize {
-            return Err(Fault {
-                refusal: Refusal::EntryTooLong,
-                floor: FLOOR,
-                entry,
-            });
+            return Err(Refusal::EntryTooLong.at(FLOOR, entry));
         }
-        let at = self.start(self.count);
-        if 4096 - at < paged(len) {
-            return Err(Fault {
-                refusal: Refusal::NoSpace,
-                floor: FLOOR,
-                entry,
-            });
+        let at = paged_all(&self.lengths);
+        if 4096 - at < paged(len as u32) {
+            return Err(Refusal::NoSpace.at(FLOOR, entry));
         }
         self.bytes[at..at + len].copy_from_slice(text);
-        self.lengths[self.count] = len as u32;
-        self.count += 1;
+        self.lengths.push(len as u32);
         Ok(entry)
     }
 
     fn read(&mut self, entry: u32, out: &mut [u8]) -> Result<usize, Fault> {
         let mut guard = Wipe { out, kept: false };
-        if entry as usize >= self.count {
-            return Err(Fault {
-                refusal: Refusal::NoEntry,
-                floor: FLOOR,
-                entry,
-            });
-        }
-        let len = self.lengths[entry as usize] as usize;
+        let place = self.place(entry)?;
+        let len = place.len();
         if guard.out.len() < len {
-            return Err(Fault {
-                refusal: Refusal::OutTooShort,
-                floor: FLOOR,
-                entry,
-            });
+            return Err(Refusal::OutTooShort.at(FLOOR, entry));
         }
-        let at = self.start(entry as usize);
-        guard.out[0..len].copy_from_slice(&self.bytes[at..at + len]);
+        guard.out[0..len].copy_from_slice(&self.bytes[place]);
         guard.kept = true;
         Ok(len)
     }

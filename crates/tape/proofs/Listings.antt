@@ -1,10 +1,9 @@
 -- The lines of a roll, one entry after another.
-use Rattle.std.proofs.Common.{◌≡◌, ℕ, zero, suc, ◌+◌, ◌<◌, ◌≤◌, List, [], ◌∷◌, ◌++◌, length, take, drop, Some, Ok, codes, decimal, sym, refl, ap, ◌∙◌, ap₂, append_assoc, append-nil, arith}
-use Rattle.std.proofs.lemmas.List.{take_all}
+use Rattle.std.proofs.Common.{◌≡◌, ℕ, zero, suc, ◌+◌, ◌<◌, List, [], ◌∷◌, ◌++◌, length, take, drop, Some, Ok, codes, decimal, sym, refl, ap, ◌∙◌, ap₂, append_assoc, append-nil, arith}
 use Rattle.roll.specs.Roll.{Meaning, Entry, entry_length, count, first, length_answer}
 use Rattle.roll.proofs.Reading.{measured}
 use Rattle.roll.proofs.Rolls.{ok_one}
-use Rattle.tape.specs.Listing.{roll_line, entry_line, entry_lines, roll_lines}
+use Rattle.tape.specs.Listing.{roll_line, entry_line, entry_lines}
 
 -- the lines of one entry more
 lines_push : (i : ℕ) (es : List Entry) (e : Entry) → entry_lines i (es ++ e ∷ []) ≡ entry_lines i es ++ entry_line (i + length es) e
@@ -39,16 +38,3 @@ more_lines m i n h a =
     = ap₂ (λ x y. decimal x ++ (codes " " ++ (decimal y ++ codes "\n"))) at long in
     append_assoc (roll_line m) old _
     ∙ ap (λ r. roll_line m ++ r) (ap (λ r. old ++ r) (sym line) ∙ sym (lines_push 0 (take i m.entries) f.0) ∙ ap (entry_lines 0) (sym f.2))
-
--- the first line, as the program writes it, before any entry's
-pub first_line : (m : Meaning) (name n space : ℕ) (bs : List ℕ) → name ≡ m.name → n ≡ count m → space ≡ m.space
-    → bs ≡ codes "roll " ++ (decimal name ++ (codes " entries " ++ (decimal n ++ (codes " space " ++ (decimal space ++ codes "\n")))))
-    → bs ≡ roll_line m ++ entry_lines 0 (take 0 m.entries)
-first_line m name n space bs p q r e =
-    e ∙ ap₂ (λ x y. codes "roll " ++ (decimal x ++ (codes " entries " ++ (decimal y ++ (codes " space " ++ (decimal space ++ codes "\n")))))) p q
-    ∙ ap (λ z. codes "roll " ++ (decimal m.name ++ (codes " entries " ++ (decimal (count m) ++ (codes " space " ++ (decimal z ++ codes "\n")))))) r
-    ∙ sym (append-nil (roll_line m))
-
--- the lines of all
-pub all_lines : (m : Meaning) (i : ℕ) → count m ≤ i → roll_line m ++ entry_lines 0 (take i m.entries) ≡ roll_lines m
-all_lines m i h = ap (λ es. roll_line m ++ entry_lines 0 es) (take_all i m.entries h)

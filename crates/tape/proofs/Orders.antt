@@ -1,11 +1,14 @@
 -- The test for order, and the relation that it decides.
-use Rattle.std.proofs.Common.{◌≡◌, ℕ, zero, suc, ◌+◌, ◌-◌, ◌*◌, ◌<◌, ◌≤◌, Bool, true, false, eqb, leb, List, length, Some, None, sym, refl, ap, ◌∙◌, ⊎_elim, add-one, arith}
-use Rattle.std.proofs.lemmas.Bool.{and_parts, and_from, and_left, and_right, cases_Bool, cases_lt, cond-true, cond-false, eq-eqb, leb-true, le-leb}
+use Rattle.std.proofs.Common.{◌≡◌, ℕ, zero, suc, ◌+◌, ◌-◌, ◌*◌, ◌<◌, ◌≤◌, Bool, true, false, leb, List, length, Some, None, Ok, Err, Result, sym, refl, ap, ◌∙◌, ⊎_elim, add-one, arith}
+use Rattle.std.proofs.lemmas.Bool.{and_from, and_left, and_right, cases_lt, cond-true, cond-false, cond_both, eq-eqb, le-leb}
+use Rattle.std.specs.Result.{result_ok}
+use Rattle.refusal.specs.declared.refusal.Refusal.{Refusal}
+use Rattle.refusal.specs.declared.refusal.Refusal.TheVariants.{TapeLength, TapeDisorder}
 use Rattle.roll.proofs.Rolls.{none_some}
 use Rattle.tape.specs.declared.extent.Extent.{Extent}
-use Rattle.tape.specs.Tape.{begin_of, end_of, size_of, first_of, count_of, last_end, InOrder, every, entry_ordered, tape_length, header_ordered, in_order}
+use Rattle.tape.specs.Tape.{begin_of, end_of, count_of, last_end, InOrder, every, entry_ordered, tape_length, header_ordered, in_order}
 use Rattle.tape.specs.TapeLaws.{ordered}
-use Rattle.tape.specs.Judged.{extent_of, judged}
+use Rattle.tape.specs.Judged.{extent_of, judged, judgement}
 
 -- the next entry begins where this one ends
 pub begin_next : (memory : List ℕ) (i : ℕ) → begin_of memory (i + 1) ≡ end_of memory i
@@ -51,13 +54,6 @@ module _ (memory : List ℕ) where
   unfolding in_order
   fails_end e = and_right (tape_length (length memory)) _ (and_right (header_ordered memory) _ (and_right (every (entry_ordered memory) (count_of memory)) _ e))
 
-  -- under a header in order the ends of the entries have room
-  pub header_room : header_ordered memory ≡ true → 16 + 4 * count_of memory ≤ length memory
-  header_room e =
-      let size = and_parts (eqb (size_of memory) (length memory)) _ e in
-      let first = and_parts (eqb (first_of memory) 16) _ size.1 in
-      leb-true _ _ (and_parts (leb (count_of memory) 4095) _ first.1).1
-
   -- a loop that has gone through all entries has the end of the last
   pub gone : (i n end : ℕ) → n ≤ i → i ≤ n → n ≡ count_of memory → end ≡ begin_of memory i → (i ≡ count_of memory) × (end ≡ last_end memory)
   gone i n end l u c e = let all : i ≡ count_of memory = omega arith in (all, e ∙ ap (begin_of memory) all)
@@ -70,11 +66,30 @@ module _ (memory : List ℕ) where
       (every-each (entry_ordered memory) (count_of memory) (λ i h. and_from _ _ (le-leb _ _ (o.rising i h)) (le-leb _ _ (o.small i h))))
       (le-leb _ _ o.apart)
 
-  -- what was judged in order is so, and has the extent that was found
-  pub judged_order : (x : Extent) → judged memory ≡ Some x → InOrder memory × (x ≡ extent_of memory)
-  judged_order x e =
-      ⊎_elim (λ t. let p : Some (extent_of memory) ≡ Some x = sym (cond-true _ _ _ t) ∙ e in (ordered memory t, cc)) (λ f. none_some (sym (cond-false _ _ _ f) ∙ e)) (cases_Bool (in_order memory))
+  -- a judgement of a memory that is long enough and not too long
+  pub judged_ill : tape_length (length memory) ≡ true → in_order memory ≡ false → judgement memory ≡ Err TapeDisorder
+  judged_ill t f = cond-true _ _ _ t ∙ cond-false _ _ _ f
 
-  -- what was not is not
+  pub judged_well : tape_length (length memory) ≡ true → in_order memory ≡ true → judgement memory ≡ Ok (extent_of memory)
+  judged_well t o = cond-true _ _ _ t ∙ cond-true _ _ _ o
+
+  -- what holds of each answer of a judgement, where that may be given, holds of the judgement
+  pub judgement_is : (P : Result Extent Refusal → Type 0) → (in_order memory ≡ true → P (Ok (extent_of memory)))
+      → (tape_length (length memory) ≡ true → in_order memory ≡ false → P (Err TapeDisorder)) → (tape_length (length memory) ≡ false → P (Err TapeLength))
+      → P (judgement memory)
+  judgement_is P ordered disordered long =
+      cond_both (tape_length (length memory)) _ _ P (λ t. cond_both (in_order memory) _ _ P ordered (disordered t)) long
+
+  -- without the reason it is what is kept of a memory
+  pub result_ok-judgement : result_ok (judgement memory) ≡ judged memory
+  result_ok-judgement =
+      judgement_is (λ r. result_ok r ≡ judged memory) (λ t. sym (cond-true _ _ _ t)) (λ t f. sym (cond-false _ _ _ f)) (λ l. sym (cond-false _ _ _ (fails_length l)))
+
+  -- a memory that was judged in order is so, and has the extent that was found
+  pub judged_order : (x : Extent) → judged memory ≡ Some x → InOrder memory × (x ≡ extent_of memory)
+  judged_order x =
+      cond_both (in_order memory) _ _ (λ r. r ≡ Some x → InOrder memory × (x ≡ extent_of memory)) (λ t e. (ordered memory t, cc)) (λ f e. none_some e)
+
+  -- one that was not is not
   pub judged_disorder : judged memory ≡ None → in_order memory ≡ false
-  judged_disorder e = ⊎_elim (λ t. none_some (sym e ∙ cond-true _ _ _ t)) (λ f. f) (cases_Bool (in_order memory))
+  judged_disorder = cond_both (in_order memory) _ _ (λ r. r ≡ None → in_order memory ≡ false) (λ t e. none_some (sym e)) (λ f e. f)

@@ -9,10 +9,10 @@ use Rattle.roll.proofs.Rolls.{Takes, taken, tried, after_is, none_some}
 use Rattle.roll.proofs.Piles.{takes_down, refused_down}
 use Rattle.roll.proofs.Stamps.{each_map}
 use Rattle.roll.proofs.Whole.{life}
-use Rattle.tape.specs.Tape.{count_of, last_end, InOrder, in_order, between, nothing, tape, tape_put}
+use Rattle.tape.specs.Tape.{count_of, last_end, InOrder, in_order, between, ordered_tape, nothing, tape, tape_put}
 use Rattle.tape.specs.TapeLaws.{ordered, tape_lawful}
 use Rattle.tape.specs.TapeLife.{TapeLives, TapeRests}
-use Rattle.tape.proofs.Tapes.{tape_is, tape-nothing, tape_count, tape_at, tape_past, charge_under, put_length, put_ordered, put_means}
+use Rattle.tape.proofs.Tapes.{tape_is, tape-nothing, tape_count, tape_at, entry_past, charge_under, put_length, put_ordered, put_means}
 
 -- what a tape in order takes, in the terms of its memory
 module _ (memory t : List ℕ) (o : InOrder memory) (h : Takes (tape memory) t) where
@@ -81,7 +81,7 @@ kept ls memory (c ∷ cs) o =
 stands-between : (memory : List ℕ) (i : ℕ) (t : List ℕ) → InOrder memory → entry (tape memory) i ≡ Some (text t) → between memory i ≡ t
 stands-between memory i t o e =
     let m = ap (λ x. entry x i) (sym (tape_is memory o)) in
-    ⊎_elim (λ h. let p = sym (tape_at memory o i h) ∙ (m ∙ e) in cc) (λ h. none_some (sym (tape_past memory o i h) ∙ (m ∙ e))) (cases_lt i (count_of memory))
+    ⊎_elim (λ h. let p = sym (tape_at memory o i h) ∙ (m ∙ e) in cc) (λ h. none_some (sym (entry_past (ordered_tape memory) i (omega (arith, tape_count memory o))) ∙ (m ∙ e))) (cases_lt i (count_of memory))
 
 -- the life of a memory in order
 pub lives : (memory : List ℕ) → TapeLives memory

@@ -1,23 +1,23 @@
 -- Tapes in order: where their entries stand, and what an append makes of them.
-use Rattle.std.proofs.Common.{◌≡◌, ℕ, zero, suc, ◌+◌, ◌-◌, ◌*◌, ◌<◌, ◌≤◌, true, false, ◌&&◌, ltb, List, [], ◌∷◌, ◌++◌, map, length, drop, Some, None, Ok, Err, Option, Result, sym, refl, ap, ◌∙◌, ap₂, ⊎_elim, arith}
+use Rattle.std.proofs.Common.{◌≡◌, ℕ, zero, suc, ◌+◌, ◌-◌, ◌*◌, ◌<◌, ◌≤◌, false, List, [], ◌∷◌, ◌++◌, map, length, drop, drop_of_length-le, Some, None, Ok, Err, Option, sym, refl, ap, ◌∙◌, ap₂, ⊎_elim, arith}
 use Rattle.std.specs.List.{range_with_len}
+use Rattle.std.specs.Option.{option_map_or}
+use Rattle.std.specs.declared.ops.Range.{Range}
 use Rattle.std.proofs.lemmas.List.FromFn.{length-map-range_with_len, map-range_with_len_more}
-use Rattle.std.proofs.lemmas.Bool.{and_parts, and_cases, both_ways, cases_Bool, cases_lt, cond-true, cond-false, cond_both, ltb-true, ltb-false}
+use Rattle.std.proofs.lemmas.Bool.{both_ways, cases_lt, cond-true, cond-false, cond_both}
 use Rattle.engine.specs.Bytes.{number, bytes}
 use Rattle.refusal.specs.declared.fault.Fault.{Fault}
 use Rattle.refusal.specs.declared.refusal.Refusal.{Refusal}
-use Rattle.refusal.specs.declared.refusal.Refusal.TheVariants.{NoEntry}
 use Rattle.roll.specs.Memory.{part, written}
 use Rattle.roll.specs.Roll.{Meaning, Entry, text, count, entry, first, append_answer, append_after, grown}
 use Rattle.refusal.specs.Refusals.{fault}
 use Rattle.roll.proofs.Memories.{part_length, written_length, written_there, written_below, written_above}
 use Rattle.roll.proofs.Rolls.{Takes, taken, after_is}
-use Rattle.tape.specs.Tape.{word, name_of, count_of, begin_of, end_of, last_end, InOrder, in_order, between, tape_entry, tape_charge, roll_of, ordered_tape, nothing, tape, entry_put, tape_put}
-use Rattle.tape.specs.Judged.{extent_of, judged, span_of, place_answer}
+use Rattle.tape.specs.Tape.{word, name_of, count_of, begin_of, end_of, last_end, InOrder, in_order, between, tape_entry, tape_charge, roll_of, ordered_tape, nothing, tape, StandsAt, entry_put, tape_put}
+use Rattle.tape.specs.Judged.{extent_of, judged, judgement}
 use Rattle.tape.specs.TapeLaws.{ordered, charge_is}
 use Rattle.tape.specs.declared.extent.Extent.{Extent}
-use Rattle.tape.specs.declared.span.Span.{Span}
-use Rattle.tape.proofs.Orders.{begin_next, in_order_is, judged_order, judged_disorder}
+use Rattle.tape.proofs.Orders.{begin_next, fails_length, in_order_is, judgement_is, judged_order, judged_disorder}
 
 -- what a memory means, by the test
 pub tape_is : (memory : List ℕ) → InOrder memory → tape memory ≡ ordered_tape memory
@@ -33,13 +33,6 @@ made_at : (f : ℕ → Entry) (a n i : ℕ) → i < n → first (drop i (map f (
 made_at f a zero i h = absurd (omega arith)
 made_at f a (suc n) zero h = ap (λ k. Some (f k)) (omega arith)
 made_at f a (suc n) (suc i) h = made_at f (a + 1) n i (omega arith) ∙ ap (λ k. Some (f k)) (omega arith)
-
--- and behind its end
-made_past : (f : ℕ → Entry) (a n i : ℕ) → n ≤ i → first (drop i (map f (range_with_len a n))) ≡ None
-made_past f a zero zero h = refl
-made_past f a zero (suc i) h = refl
-made_past f a (suc n) zero h = absurd (omega arith)
-made_past f a (suc n) (suc i) h = made_past f (a + 1) n i (omega arith)
 
 -- lists made by two functions that agree
 made_same : (f g : ℕ → Entry) (a n : ℕ) → ((i : ℕ) → a ≤ i → i < a + n → f i ≡ g i) → map f (range_with_len a n) ≡ map g (range_with_len a n)
@@ -70,19 +63,25 @@ module _ (memory : List ℕ) (o : InOrder memory) where
   pub tape_at : (i : ℕ) → i < count_of memory → entry (ordered_tape memory) i ≡ Some (text (between memory i))
   tape_at i h = made_at (tape_entry memory) 0 (count_of memory) i h ∙ ap (λ k. Some (tape_entry memory k)) (omega arith)
 
-  -- there is no other
-  pub tape_past : (i : ℕ) → count_of memory ≤ i → entry (ordered_tape memory) i ≡ None
-  tape_past i h = made_past (tape_entry memory) 0 (count_of memory) i h
-
   -- an entry lies within the memory
   pub between_within : (i : ℕ) → i < count_of memory → begin_of memory i + (end_of memory i - begin_of memory i) ≤ length memory
   between_within i h = omega (arith, o.rising i h, ends_early i h, o.apart)
 
-  -- and is as long as its offsets say
-  pub between_length : (i : ℕ) → i < count_of memory → length (between memory i) ≡ end_of memory i - begin_of memory i
-  between_length i h = part_length (begin_of memory i) (end_of memory i - begin_of memory i) memory (between_within i h)
+-- what the checking call finds of a memory in order, and of any other
+pub judged_finds : (memory : List ℕ) (x : Extent) → judgement memory ≡ Ok x → InOrder memory × (count (tape memory) ≡ x.count)
+judged_finds memory x =
+    judgement_is memory (λ r. r ≡ Ok x → InOrder memory × (count (tape memory) ≡ x.count))
+    (λ t e. let o = ordered memory t in (o, ap count (tape_is memory o) ∙ tape_count memory o ∙ cc e)) (λ t f e. absurd (cc e)) (λ l e. absurd (cc e))
 
--- what was judged when the tape was opened
+pub judged_refuses : (memory : List ℕ) (r : Refusal) → judgement memory ≡ Err r → (InOrder memory → ⊥) × (tape memory ≡ nothing)
+judged_refuses memory r =
+    judgement_is memory (λ j. j ≡ Err r → (InOrder memory → ⊥) × (tape memory ≡ nothing))
+    (λ t e. absurd (cc e)) (λ t f e. refused f) (λ l e. refused (fails_length memory l))
+  where
+    refused : in_order memory ≡ false → (InOrder memory → ⊥) × (tape memory ≡ nothing)
+    refused f = (λ o. both_ways (in_order memory) f (in_order_is memory o), tape-nothing memory f)
+
+-- what a tape keeps of its memory
 module _ (memory : List ℕ) (found : Option Extent) (known : found ≡ judged memory) where
   -- it is in order, and this is its extent
   pub opened_in_order : (x : Extent) → found ≡ Some x → InOrder memory × (x ≡ extent_of memory)
@@ -91,6 +90,21 @@ module _ (memory : List ℕ) (found : Option Extent) (known : found ≡ judged m
   -- or it is a roll with nothing
   pub opened_nothing : found ≡ None → tape memory ≡ nothing
   opened_nothing e = tape-nothing memory (judged_disorder memory (sym known ∙ e))
+
+  -- either way it says the bound and the count
+  pub opened_bound : option_map_or (λ x. 4097) found 0 ≡ (tape memory).bound
+  opened_bound = from found refl
+    where
+      from : (o : Option Extent) → found ≡ o → option_map_or (λ x. 4097) o 0 ≡ (tape memory).bound
+      from None e = ap (λ m. m.bound) (sym (opened_nothing e))
+      from (Some x) e = ap (λ m. m.bound) (sym (tape_is memory (opened_in_order x e).0))
+
+  pub opened_count : option_map_or (λ x. x.count) found 0 ≡ count (tape memory)
+  opened_count = from found refl
+    where
+      from : (o : Option Extent) → found ≡ o → option_map_or (λ x. x.count) o 0 ≡ count (tape memory)
+      from None e = ap count (sym (opened_nothing e))
+      from (Some x) e = let o = opened_in_order x e in ap (λ y. y.count) o.1 ∙ sym (ap count (tape_is memory o.0) ∙ tape_count memory o.0)
 
 -- a tape is a bottom
 pub tape-floor : (memory : List ℕ) → (tape memory).floor ≡ 0
@@ -107,57 +121,31 @@ pub charge_under : (memory : List ℕ) (n : ℕ) → n < (tape memory).bound →
 unfolding tape
 charge_under memory n = cond_both (in_order memory) (ordered_tape memory) nothing (λ m. n < m.bound → m.charge n ≡ n + 4) (λ e h. charge_is n h) (λ e h. absurd (omega arith))
 
--- in an empty list nothing stands
-none_there : (i : ℕ) → first (drop i []) ≡ None
-none_there zero = refl
-none_there (suc i) = refl
+-- an entry below the count of a tape is one of a memory in order
+pub below_count : (memory : List ℕ) (i : ℕ) → i < count (tape memory) → InOrder memory × (i < count_of memory)
+unfolding tape
+below_count memory i =
+    cond_both (in_order memory) (ordered_tape memory) nothing (λ m. i < count m → InOrder memory × (i < count_of memory))
+    (λ t h. (ordered memory t, omega (arith, tape_count memory (ordered memory t))))
+    (λ f h. absurd (omega arith))
 
--- where an entry was found to stand
-pub placed : (memory : List ℕ) (i : ℕ) (at : Span) → place_answer memory i ≡ Ok at → InOrder memory × (i < count_of memory) × (at ≡ span_of memory i)
-placed memory i at p =
-    ⊎_elim
-    (λ t. let both = and_parts _ _ t in let same : ◌≡◌ {A = Result Span Fault} (Ok (span_of memory i)) (Ok at) = sym (cond-true _ _ _ t) ∙ p in (ordered memory both.0, ltb-true _ _ both.1, cc))
-    (λ f. let no : ◌≡◌ {A = ℕ} 0 1 = cc (sym (cond-false _ _ _ f) ∙ p) in absurd (omega arith))
-    (cases_Bool (in_order memory && ltb i (count_of memory)))
+-- and stands there
+pub stands_at : (memory : List ℕ) (i : ℕ) → i < count (tape memory) → StandsAt memory i (record { start = begin_of memory i; end = end_of memory i })
+stands_at memory i h =
+    let q = below_count memory i h in
+    record {
+      rises = q.0.rising i q.1;
+      within = omega (arith, q.0.rising i q.1, between_within memory q.0 i q.1);
+      stands = ap (λ m. entry m i) (tape_is memory q.0) ∙ tape_at memory q.0 i q.1;
+    }
 
--- what stands there
-module _ (memory : List ℕ) (i : ℕ) (at : Span) (p : place_answer memory i ≡ Ok at) where
-  -- it ends where it begins or behind that, and within the memory
-  pub span_within : (at.begin ≤ at.end) × (at.end ≤ length memory)
-  span_within =
-      let q = placed memory i at p in
-      let b = ap (λ x. x.begin) q.2 in
-      let e = ap (λ x. x.end) q.2 in
-      (omega (arith, b, e, q.0.rising i q.1), omega (arith, b, e, q.0.rising i q.1, between_within memory q.0 i q.1))
+-- so it is as long as its part of the memory
+pub stands-length : (memory : List ℕ) (i : ℕ) (at : Range ℕ) → StandsAt memory i at → length (part at.start (at.end - at.start) memory) ≡ at.end - at.start
+stands-length memory i at s = part_length at.start (at.end - at.start) memory (omega (arith, s.rises, s.within))
 
-  -- the entry is what stands between
-  pub span_entry : entry (tape memory) i ≡ Some (text (part at.begin (at.end - at.begin) memory))
-  span_entry =
-      let q = placed memory i at p in
-      ap (λ m. entry m i) (tape_is memory q.0) ∙ tape_at memory q.0 i q.1 ∙ ap (λ x. Some (text (part x.begin (x.end - x.begin) memory))) (sym q.2)
-
-  -- and is as long
-  pub span_length : length (part at.begin (at.end - at.begin) memory) ≡ at.end - at.begin
-  span_length = part_length at.begin (at.end - at.begin) memory (omega (arith, span_within))
-
--- an entry that was not found does not stand
-pub not_placed : (memory : List ℕ) (i : ℕ) (f : Fault) → place_answer memory i ≡ Err f → (entry (tape memory) i ≡ None) × (f ≡ fault NoEntry (tape memory).floor i)
-not_placed memory i f p =
-    ⊎_elim
-    (λ t. let no : ◌≡◌ {A = ℕ} 0 1 = cc (sym (cond-true _ _ _ t) ∙ p) in absurd (omega arith))
-    (λ n. let same : ◌≡◌ {A = Result Span Fault} (Err (fault NoEntry 0 i)) (Err f) = sym (cond-false _ _ _ n) ∙ p in let at : f ≡ fault NoEntry 0 i = cc in
-    (gone n, at ∙ ap (λ k. fault NoEntry k i) (sym (tape-floor memory))))
-    (cases_Bool (in_order memory && ltb i (count_of memory)))
-  where
-    past : in_order memory ≡ true → count_of memory ≤ i → entry (tape memory) i ≡ None
-    past t h = let o = ordered memory t in ap (λ m. entry m i) (tape_is memory o) ∙ tape_past memory o i h
-
-    gone : (in_order memory && ltb i (count_of memory)) ≡ false → entry (tape memory) i ≡ None
-    gone n =
-        ⊎_elim
-        (λ t. ⊎_elim (λ f. absurd (both_ways (in_order memory) f t)) (λ f. past t (ltb-false _ _ f)) (and_cases _ _ n))
-        (λ f. ap (λ m. entry m i) (tape-nothing memory f) ∙ none_there i)
-        (cases_Bool (in_order memory))
+-- from the count on there is no entry
+pub entry_past : (m : Meaning) (i : ℕ) → count m ≤ i → entry m i ≡ None
+entry_past m i h = ap first (drop_of_length-le m.entries h)
 
 -- an extent by its parts
 abbrev pub extent : ℕ → ℕ → Extent

@@ -1,9 +1,10 @@
 -- What a memory means as a tape: a header of 16 bytes, the entries one behind the other, and at the end of the memory where each of them ends.
-use Rattle.std.specs.Prelude.{◌≡◌, ℕ, zero, suc, ◌+◌, ◌-◌, ◌*◌, ◌<◌, ◌≤◌, Bool, true, cond, ◌&&◌, List, [], map, length, ◌==◌, nat_le, nat_lt}
+use Rattle.std.specs.Prelude.{◌≡◌, ℕ, zero, suc, ◌+◌, ◌-◌, ◌*◌, ◌<◌, ◌≤◌, Bool, true, if◌then◌else◌, ◌&&◌, List, [], map, length, Some, ◌==◌, nat_le, nat_lt}
 use Rattle.std.specs.List.{range_with_len}
+use Rattle.std.specs.declared.ops.Range.{Range}
 use Rattle.engine.specs.Bytes.{number, bytes}
 use Rattle.roll.specs.Memory.{part, written}
-use Rattle.roll.specs.Roll.{Meaning, Entry, text, Put}
+use Rattle.roll.specs.Roll.{Meaning, Entry, text, entry, Put}
 
 -- the number in the four bytes at a place, the least byte first
 abbrev pub word : ℕ → List ℕ → ℕ
@@ -85,7 +86,7 @@ tape_entry memory i = text (between memory i)
 
 -- what an entry costs: its bytes and the four of its end
 abbrev pub tape_charge : ℕ → ℕ
-tape_charge n = cond (nat_lt n 4097) (n + 4) 0
+tape_charge n = if nat_lt n 4097 then n + 4 else 0
 
 -- a roll of this name, space and entries on a tape
 abbrev pub roll_of : ℕ → ℕ → List Entry → Meaning
@@ -101,7 +102,13 @@ nothing = record { name = 0; floor = 0; bound = 0; space = 0; charge = λ n. 0; 
 
 -- what a memory means
 unfoldable pub tape : List ℕ → Meaning
-tape memory = cond (in_order memory) (ordered_tape memory) nothing
+tape memory = if in_order memory then ordered_tape memory else nothing
+
+-- entry i of a tape stands in a range of its memory
+pub record StandsAt (memory : List ℕ) (i : ℕ) (place : Range ℕ) : Type 0 where
+  pub rises : place.start ≤ place.end
+  pub within : place.end ≤ length memory
+  pub stands : entry (tape memory) i ≡ Some (text (part place.start (place.end - place.start) memory))
 
 -- the memory with an entry written behind the last one, which ends at `end`, then where it ends, then how many entries there are
 abbrev pub entry_put : ℕ → ℕ → List ℕ → List ℕ → List ℕ

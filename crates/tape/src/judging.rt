@@ -1,8 +1,10 @@
 ghost use Rattle.std.specs.Prelude.{◌≡◌, ◌+◌, ◌*◌, ◌≤◌, ◌&&◌, length, nat_le};
 ghost use Rattle.tape.specs.Tape.{word, begin_of, end_of, tape_length, header_ordered};
-ghost use Rattle.tape.specs.Judged.{judged};
+ghost use Rattle.tape.specs.Judged.{judgement};
 
 use crate::extent::Extent;
+use byteorder::{ByteOrder, LittleEndian};
+use tinyjambu::Refusal;
 
 // The length of the header, behind which the first entry begins.
 pub(crate) const HEADER: usize = 16;
@@ -11,7 +13,7 @@ pub(crate) const HEADER: usize = 16;
 const LONGEST: usize = 65536;
 
 // The most entries of a roll.
-pub(crate) const MOST: usize = 4095;
+pub(crate) const MOST: u32 = 4095;
 
 // The longest entry.
 const LONGEST_ENTRY: usize = 4096;
@@ -21,19 +23,19 @@ pub(crate) fn word(memory: &[u8], at: usize) -> u32
     requires { at + 4 ≤ length memory.now }
     ensures { result ≡ word at memory.now }
 {
-    u32::from_le_bytes([memory[at], memory[at + 1], memory[at + 2], memory[at + 3]])
+    LittleEndian::read_u32(&memory[at..])
 }
 
 // Where an entry ends.
-pub(crate) fn end_of(memory: &[u8], entry: usize) -> usize
+pub(crate) fn end_of(memory: &[u8], entry: u32) -> usize
     requires { 4 * (entry + 1) ≤ length memory.now }
     ensures { result ≡ end_of memory.now entry }
 {
-    word(memory, memory.len() - 4 * (entry + 1)) as usize
+    word(memory, memory.len() - 4 * (entry as usize + 1)) as usize
 }
 
 // Where an entry begins.
-pub(crate) fn begin_of(memory: &[u8], entry: usize) -> usize
+pub(crate) fn begin_of(memory: &[u8], entry: u32) -> usize
     requires { 4 * entry ≤ length memory.now }
     ensures { result ≡ begin_of memory.now entry }
 {
@@ -48,7 +50,7 @@ pub(crate) fn begin_of(memory: &[u8], entry: usize) -> usize
 pub(crate) fn is_tape_length(len: usize) -> bool
     ensures { result ≡ tape_length len }
 {
-    len >= HEADER && len <= LONGEST
+    (HEADER..=LONGEST).contains(&len)
 }
 
 // Whether the header of a memory that is long enough is in order.
@@ -57,11 +59,11 @@ fn header_ordered(memory: &[u8]) -> bool
     ensures { result ≡ header_ordered memory.now }
 {
     let len = memory.len();
-    let count = word(memory, 4) as usize;
+    let count = word(memory, 4);
     word(memory, 12) as usize == len
         && word(memory, 8) as usize == HEADER
         && count <= MOST
-        && HEADER + 4 * count <= len
+        && HEADER + 4 * count as usize <= len
 }
 
 // Whether an entry may begin and end so.
@@ -71,28 +73,28 @@ fn entry_ordered(begin: usize, end: usize) -> bool
     begin <= end && end - begin <= LONGEST_ENTRY
 }
 
-// Judges a memory: its extent, if it is in order.
-pub(crate) fn judge(memory: &[u8]) -> Option<Extent>
-    ensures { result ≡ judged memory.now }
+// Judges a memory: its extent if it is in order, or else whether its length or what it holds is amiss.
+pub(crate) fn judge(memory: &[u8]) -> Result<Extent, Refusal>
+    ensures { result ≡ judgement memory.now }
 {
     let len = memory.len();
     if !is_tape_length(len) {
-        return None;
+        return Err(Refusal::TapeLength);
     }
     if !header_ordered(memory) {
-        return None;
+        return Err(Refusal::TapeDisorder);
     }
-    let count = word(memory, 4) as usize;
+    let count = word(memory, 4);
     let mut end = HEADER;
-    for i in 0..count {
-        let next = end_of(memory, i);
+    for entry in 0..count {
+        let next = end_of(memory, entry);
         if !entry_ordered(end, next) {
-            return None;
+            return Err(Refusal::TapeDisorder);
         }
         end = next;
     }
-    if end > len - 4 * count {
-        return None;
+    if end > len - 4 * count as usize {
+        return Err(Refusal::TapeDisorder);
     }
-    Some(Extent { count, end })
+    Ok(Extent { count, end })
 }

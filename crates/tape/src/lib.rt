@@ -2,11 +2,9 @@
 
 mod blanking;
 mod checking;
-mod copying;
 mod extent;
 mod judging;
 mod lines;
-mod span;
 mod tape;
 mod writing;
 

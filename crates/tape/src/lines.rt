@@ -5,6 +5,7 @@ use crate::checking::check;
 use crate::tape::Tape;
 use roll::Roll;
 use std::alloc::{AllocError, Global};
+use std::fmt::Write;
 
 // The lines that list a roll: name, count and space, and then the number and the length of each entry.
 fn roll_lines<R: Roll>(heap: Global, roll: &R) -> Result<String, AllocError>
@@ -16,8 +17,7 @@ fn roll_lines<R: Roll>(heap: Global, roll: &R) -> Result<String, AllocError>
     let mut lines = format!(in heap; "roll {name} entries {count} space {space}\n")?;
     for number in 0..count {
         let length = roll.length(number).unwrap();
-        let line = format!(in heap; "{number} {length}\n")?;
-        lines.push_str(&line)?;
+        writeln!(lines, "{number} {length}")?;
     }
     Ok(lines)
 }

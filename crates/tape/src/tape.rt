@@ -1,15 +1,17 @@
-ghost use Rattle.std.specs.Prelude.{◌≡◌, [], refl};
-ghost use Rattle.tape.specs.Tape.{tape, tape_put};
+ghost use Rattle.std.specs.Prelude.{◌≡◌, [], refl, IfOk, OnErr, IfErr, None};
+ghost use Rattle.refusal.specs.Refusals.{fault};
+ghost use Rattle.refusal.specs.declared.refusal.Refusal.TheVariants.{NoEntry};
+ghost use Rattle.roll.specs.Roll.{entry};
+ghost use Rattle.tape.specs.Tape.{tape, tape_put, StandsAt};
 ghost use Rattle.tape.specs.TapeLife.{TapeLives, TapeRests};
 ghost use Rattle.tape.specs.TapeLaws.{tape_lawful};
-ghost use Rattle.refusal.specs.Refusals.{fault};
-ghost use Rattle.tape.specs.Judged.{judged, place_answer};
 
 use crate::extent::Extent;
 use crate::judging::{MOST, begin_of, end_of, judge, word};
-use crate::span::Span;
 use crate::writing::write_entry;
 use roll::Roll;
+use std::marker::Model;
+use std::ops::Range;
 use tinyjambu::{Fault, Refusal, Wipe};
 
 // A roll on given memory, which it owns while it stands.
@@ -17,7 +19,19 @@ use tinyjambu::{Fault, Refusal, Wipe};
 pub struct Tape {
     memory: Vec<u8>,
     extent: Option<Extent>,
-    ghost known: { extent ≡ judged memory.items },
+}
+
+// A tape is its memory, and the extent is what judging that finds.
+impl Model for Tape {
+    ghost use Rattle.std.specs.Prelude.{◌≡◌, ℕ, Vec};
+    ghost use Rattle.std.specs.declared.alloc.Global.{Global};
+    ghost use Rattle.tape.specs.Judged.{judged};
+
+    ghost Value = { Vec ℕ Global };
+
+    ghost view = { λ t. t.memory };
+
+    ghost invariant = { λ t. t.extent ≡ judged t.memory.items };
 }
 
 // The floor number of a bottom.
@@ -29,74 +43,62 @@ const BOUND: u32 = 4097;
 impl Tape {
     // Opens a memory, whatever it holds: if it is not in order, as a roll with nothing.
     pub fn open(memory: Vec<u8>) -> Tape
-        ensures held { result.memory ≡ memory }
-        ensures life { TapeLives result.memory.items }
-        ensures rests { TapeRests result.memory.items }
+        ensures held { result ≡ memory }
+        ensures life { TapeLives result.items }
+        ensures rests { TapeRests result.items }
     {
-        let extent = judge(&memory);
+        let extent = judge(&memory).ok();
         Tape { memory, extent }
     }
 
     // Gives the memory back.
     pub fn into_memory(self) -> Vec<u8>
-        ensures { result ≡ self.memory }
+        ensures { result ≡ self }
     {
         let Tape { memory, extent: _ } = self;
         memory
     }
 
-    // Where an entry stands, or refusal 8.
-    fn place(&self, entry: u32) -> Result<Span, Fault>
-        ensures { result ≡ place_answer self.now.memory.items entry }
+    // Where the bytes of an entry stand, or refusal 8.
+    fn place(&self, number: u32) -> Result<Range<usize>, Fault>
+        ensures found { IfOk result (StandsAt self.now.items number) }
+        ensures missing { OnErr result (entry (tape self.now.items) number ≡ None) }
+        ensures refusal { IfErr result (λ f. f ≡ fault NoEntry 0 number) }
     {
-        let i = entry as usize;
-        match self.extent {
-            Some(extent) if i < extent.count => Ok(Span {
-                begin: begin_of(&self.memory, i),
-                end: end_of(&self.memory, i),
-            }),
-            _ => Err(refusal(Refusal::NoEntry, entry)),
+        if number >= self.count() {
+            return Err(Refusal::NoEntry.at(FLOOR, number));
         }
-    }
-}
-
-// The fault of a call on a tape.
-fn refusal(refusal: Refusal, entry: u32) -> Fault
-    ensures { result ≡ fault refusal 0 entry }
-{
-    Fault {
-        refusal,
-        floor: FLOOR,
-        entry,
+        Ok(begin_of(&self.memory, number)..end_of(&self.memory, number))
     }
 }
 
 impl Roll for Tape {
-    ghost meaning = { λ s. tape s.memory.items };
+    ghost meaning = { λ s. tape s.items };
 
-    ghost bottom = { λ s. tape s.memory.items };
+    ghost bottom = { λ s. tape s.items };
 
     ghost layers = { λ s. [] };
 
-    ghost image = { λ s. s.memory.items };
+    ghost image = { λ s. s.items };
 
-    ghost put = { λ s t. tape_put (tape s.memory.items) s.memory.items t };
+    ghost put = { λ s t. tape_put (tape s.items) s.items t };
 
     ghost writes = { tape_put };
 
     ghost stands = { λ s. refl };
 
-    ghost lawful = { λ s. tape_lawful s.memory.items };
+    ghost lawful = { λ s. tape_lawful s.items };
 
-    ghost lawful_top = { λ s. tape_lawful s.memory.items };
+    ghost lawful_top = { λ s. tape_lawful s.items };
 
     ghost puts = { λ s t. refl };
 
+    // By no closure, here and in `space`: it would have to state what the read and the subtractions need.
     fn name(&self) -> u32 {
-        match self.extent {
-            None => 0,
-            Some(_) => word(&self.memory, 0),
-        }
+        let Some(_) = self.extent else {
+            return 0;
+        };
+        word(&self.memory, 0)
     }
 
     fn floor(&self) -> u32 {
@@ -104,24 +106,18 @@ impl Roll for Tape {
     }
 
     fn bound(&self) -> u32 {
-        match self.extent {
-            None => 0,
-            Some(_) => BOUND,
-        }
+        self.extent.map_or(0, |_| BOUND)
     }
 
     fn space(&self) -> u32 {
-        match self.extent {
-            None => 0,
-            Some(extent) => (self.memory.len() - 4 * extent.count - extent.end) as u32,
-        }
+        let Some(extent) = self.extent else {
+            return 0;
+        };
+        (self.memory.len() - 4 * extent.count as usize - extent.end) as u32
     }
 
     fn count(&self) -> u32 {
-        match self.extent {
-            None => 0,
-            Some(extent) => extent.count as u32,
-        }
+        self.extent.map_or(0, |extent| extent.count)
     }
 
     fn charge(&self, n: u32) -> u32 {
@@ -129,24 +125,23 @@ impl Roll for Tape {
     }
 
     fn length(&self, entry: u32) -> Result<usize, Fault> {
-        let Span { begin, end } = self.place(entry)?;
-        Ok(end - begin)
+        Ok(self.place(entry)?.len())
     }
 
     fn append(&mut self, text: &[u8]) -> Result<u32, Fault> {
         let entry = self.count();
         let Some(extent) = self.extent else {
-            return Err(refusal(Refusal::EntryTooLong, entry));
+            return Err(Refusal::EntryTooLong.at(FLOOR, entry));
         };
         let len = text.len();
         if len >= BOUND as usize {
-            return Err(refusal(Refusal::EntryTooLong, entry));
+            return Err(Refusal::EntryTooLong.at(FLOOR, entry));
         }
         if extent.count >= MOST {
-            return Err(refusal(Refusal::RollFull, entry));
+            return Err(Refusal::RollFull.at(FLOOR, entry));
         }
         if (self.space() as usize) < len + 4 {
-            return Err(refusal(Refusal::NoSpace, entry));
+            return Err(Refusal::NoSpace.at(FLOOR, entry));
         }
         self.extent = Some(write_entry(&mut self.memory, extent, text));
         Ok(entry)
@@ -154,12 +149,12 @@ impl Roll for Tape {
 
     fn read(&mut self, entry: u32, out: &mut [u8]) -> Result<usize, Fault> {
         let mut guard = Wipe { out, kept: false };
-        let Span { begin, end } = self.place(entry)?;
-        let len = end - begin;
+        let place = self.place(entry)?;
+        let len = place.len();
         if guard.out.len() < len {
-            return Err(refusal(Refusal::OutTooShort, entry));
+            return Err(Refusal::OutTooShort.at(FLOOR, entry));
         }
-        guard.out[0..len].copy_from_slice(&self.memory[begin..end]);
+        guard.out[0..len].copy_from_slice(&self.memory[place]);
         guard.kept = true;
         Ok(len)
     }

@@ -1,13 +1,13 @@
 use Rattle.std.proofs.Common.{ℕ, leb, List, length, sym, ap, ◌∙◌, arith}
-use Rattle.std.proofs.lemmas.Bool.{and_parts, cond-true, leb-true}
+use Rattle.std.proofs.lemmas.Bool.{and_parts, leb-true}
 use Rattle.engine.specs.Bytes.{bytes}
 use Rattle.roll.specs.Memory.{written}
 use Rattle.tape.specs.Tape.{tape}
 use Rattle.tape.proofs.Blanks.{header_written, blank_ordered, blank_means}
 use Rattle.tape.proofs.blanking.blank.Goals as goal
 
-pub returns : goal.returns
-returns c =
+pub returns-clause-empty : goal.returns-clause-empty
+returns-clause-empty c =
     let memory : List ℕ = c.args.memory.now in
     let name = c.args.name in
     let fits = sym c.if-not-is_tape_length.ensures in
@@ -17,8 +17,4 @@ returns c =
     let two = c.write_word-2.ensures ∙ ap (written 4 (bytes 4 0)) c.write_word.ensures in
     let four = c.write_word-4.ensures ∙ ap (written 12 (bytes 4 (length memory))) (c.write_word-3.ensures ∙ ap (written 8 (bytes 4 16)) two) in
     let wrote = four ∙ header_written name memory (omega arith) long short in
-    record {
-      answer = sym (cond-true _ _ _ fits);
-      after = wrote ∙ sym (cond-true _ _ _ fits);
-      empty = (rw wrote (blank_ordered name memory (omega arith) long short), ap tape wrote ∙ blank_means name memory (omega arith) long short);
-    }
+    (rw wrote (blank_ordered name memory (omega arith) long short), ap tape wrote ∙ blank_means name memory (omega arith) long short)

@@ -1,8 +1,5 @@
-use Rattle.std.proofs.Common.{sym, arith}
-use Rattle.pocket.proofs.Pockets.{pocket-count}
+use Rattle.pocket.specs.PocketLaws.{entries-count}
 use Rattle.pocket.proofs.pocket.PocketRoll.count.Goals as goal
 
 pub returns : goal.returns
-returns c =
-    let p = c.args.self.now in
-    sym (pocket-count p.name p.bytes p.lengths p.count (omega arith))
+returns c = let n = entries-count c.args.self.now.bytes 0 c.args.self.now.lengths.items in cc

@@ -1,14 +1,13 @@
-use Rattle.std.proofs.Common.{vec_items, sym, ap}
-use Rattle.tape.proofs.Tapes.{tape_is, opened_in_order, opened_nothing}
+use Rattle.std.proofs.Common.{◌≡◌, ℕ, ap, ◌∙◌, rules}
+use Rattle.std.specs.Option.{option_map_or}
+use Rattle.tape.specs.Tape.{tape}
+use Rattle.tape.specs.declared.extent.Extent.{Extent}
+use Rattle.tape.proofs.Tapes.{opened_bound}
 use Rattle.tape.proofs.tape.TapeRoll.bound.Goals as goal
 
-pub returns-in-None : goal.returns-in-None
-returns-in-None c =
-    let s = c.args.self.now in
-    ap (λ m. m.bound) (sym (opened_nothing (vec_items s.memory) _ s.known c.in-None.is))
-
-pub returns-in-Some : goal.returns-in-Some
-returns-in-Some c =
-    let s = c.args.self.now in
-    let o = opened_in_order (vec_items s.memory) _ s.known _ c.in-Some.is in
-    ap (λ m. m.bound) (sym (tape_is (vec_items s.memory) o.0))
+pub returns : goal.returns
+returns c =
+    let s = c.self.inside in
+    let number : Extent → ℕ = λ x. 4097 in
+    let e : c.map_or.result ≡ option_map_or number s.extent 0 = search rules in
+    e ∙ opened_bound s.memory.items s.extent c.self.invariant ∙ ap (λ v. (tape v.items).bound) c.self.view_is

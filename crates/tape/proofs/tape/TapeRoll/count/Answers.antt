@@ -1,23 +1,14 @@
-use Rattle.std.proofs.Common.{ℕ, List, vec_items, sym, ap, ◌∙◌, arith}
+use Rattle.std.proofs.Common.{◌≡◌, ℕ, ap, ◌∙◌, rules}
+use Rattle.std.specs.Option.{option_map_or}
 use Rattle.roll.specs.Roll.{count}
-use Rattle.tape.proofs.Tapes.{tape_is, tape_count, opened_in_order, opened_nothing}
+use Rattle.tape.specs.Tape.{tape}
+use Rattle.tape.specs.declared.extent.Extent.{Extent}
+use Rattle.tape.proofs.Tapes.{opened_count}
 use Rattle.tape.proofs.tape.TapeRoll.count.Goals as goal
 
-pub overflow_cast-result : goal.overflow_cast-result
-overflow_cast-result c =
-    let s = c.args.self.now in
-    let memory : List ℕ = vec_items s.memory in
-    let o = opened_in_order memory _ s.known _ c.in-Some.is in
-    omega (arith, ap (λ e. e.count) o.1, o.0.few)
-
-pub returns-in-None : goal.returns-in-None
-returns-in-None c =
-    let s = c.args.self.now in
-    ap count (sym (opened_nothing (vec_items s.memory) _ s.known c.in-None.is))
-
-pub returns-in-Some : goal.returns-in-Some
-returns-in-Some c =
-    let s = c.args.self.now in
-    let memory : List ℕ = vec_items s.memory in
-    let o = opened_in_order memory _ s.known _ c.in-Some.is in
-    ap (λ e. e.count) o.1 ∙ sym (ap count (tape_is memory o.0) ∙ tape_count memory o.0)
+pub returns : goal.returns
+returns c =
+    let s = c.self.inside in
+    let number : Extent → ℕ = λ x. x.count in
+    let e : c.map_or.result ≡ option_map_or number s.extent 0 = search rules in
+    e ∙ opened_count s.memory.items s.extent c.self.invariant ∙ ap (λ v. count (tape v.items)) c.self.view_is

@@ -1,61 +1,63 @@
-use Rattle.std.proofs.Common.{ℕ, ◌-◌, List, length, take, drop, Ok, Err, vec_items, sym, refl, ap, ◌∙◌, arith}
+use Rattle.std.proofs.Common.{◌-◌, ◌++◌, length, take, drop, Ok, Err, sym, refl, ap, ◌∙◌, arith}
 use Rattle.std.proofs.lemmas.Result.{err_from_is_err_and}
-use Rattle.refusal.specs.declared.refusal.Refusal.TheVariants.{OutTooShort}
+use Rattle.refusal.specs.declared.refusal.Refusal.TheVariants.{NoEntry, OutTooShort}
 use Rattle.refusal.specs.Refusals.{fault}
+use Rattle.roll.specs.Memory.{part}
 use Rattle.roll.proofs.Memories.{read-part}
 use Rattle.roll.proofs.Reading.{read_missing, read_long, read_given}
 use Rattle.tape.specs.Tape.{tape}
-use Rattle.tape.proofs.Tapes.{tape-floor, not_placed, span_within, span_entry, span_length}
+use Rattle.tape.proofs.Tapes.{tape-floor, stands-length}
 use Rattle.tape.proofs.tape.TapeRoll.read.Goals as goal
 
-pub returns-in_err-begin : goal.returns-in_err-begin
-returns-in_err-begin c =
-    let memory : List ℕ = vec_items c.args.self.now.memory in
-    let e = err_from_is_err_and c.from_residual.result c.from_residual.ensures.1 in
-    let n = not_placed memory c.args.entry _ (sym c.place.ensures ∙ c.in_err-begin.was) in
-    let done = read_missing (tape memory) c.args.entry c.args.out.now n.0 in
-    record { answer = e.1 ∙ ap Err (e.2 ∙ n.1) ∙ sym done.0; out = c.drop-guard.ensures ∙ sym done.1; same = refl; stored = refl; floors = refl; bytes = refl }
-
-pub overflow_sub-len : goal.overflow_sub-len
-overflow_sub-len c =
-    let memory : List ℕ = vec_items c.args.self.now.memory in
-    (span_within memory c.args.entry _ (sym c.place.ensures ∙ c.in_ok-begin.was)).0
+pub returns-in_err-place : goal.returns-in_err-place
+returns-in_err-place c =
+    let memory = c.args.self.now.items in
+    let back = err_from_is_err_and c.from_residual.result c.from_residual.ensures.1 in
+    let at = c.in_err-place.ensures.refusal ∙ ap (λ k. fault NoEntry k c.args.entry) (sym (tape-floor memory)) in
+    let done = read_missing (tape memory) c.args.entry c.args.out.now c.in_err-place.ensures.missing in
+    record {
+      answer = back.1 ∙ ap Err (back.2 ∙ at) ∙ sym done.0;
+      out = c.drop-guard.ensures ∙ sym done.1;
+      same = refl;
+      stored = refl;
+      floors = refl;
+      bytes = refl;
+    }
 
 pub returns-then-guard-len : goal.returns-then-guard-len
 returns-then-guard-len c =
-    let memory : List ℕ = vec_items c.args.self.now.memory in
-    let p = sym c.place.ensures ∙ c.in_ok-begin.was in
-    let done = read_long (tape memory) c.args.entry c.args.out.now _ (span_entry memory c.args.entry _ p) (omega (arith, c.if-guard-len.true, span_length memory c.args.entry _ p)) in
-    record { answer = ap Err (c.refusal.ensures ∙ ap (λ k. fault OutTooShort k c.args.entry) (sym (tape-floor memory))) ∙ sym done.0; out = c.drop-guard-then-guard-len.ensures ∙ sym done.1; same = refl; stored = refl; floors = refl; bytes = refl }
-
-pub slice_bounds-copy_from_slice-count-2 : goal.slice_bounds-copy_from_slice-count-2
-slice_bounds-copy_from_slice-count-2 c =
-    let memory : List ℕ = vec_items c.args.self.now.memory in
-    (span_within memory c.args.entry _ (sym c.place.ensures ∙ c.in_ok-begin.was)).0
-
-pub slice_bounds-copy_from_slice-start-2 : goal.slice_bounds-copy_from_slice-start-2
-slice_bounds-copy_from_slice-start-2 c =
-    let memory : List ℕ = vec_items c.args.self.now.memory in
-    (span_within memory c.args.entry _ (sym c.place.ensures ∙ c.in_ok-begin.was)).0
+    let memory = c.args.self.now.items in
+    let at = c.in_ok-place.ensures.found in
+    let done = read_long (tape memory) c.args.entry c.args.out.now _ at.stands (omega (arith, c.if-guard-len.true, stands-length memory c.args.entry _ at)) in
+    record {
+      answer = ap Err (c.at.ensures ∙ ap (λ k. fault OutTooShort k c.args.entry) (sym (tape-floor memory))) ∙ sym done.0;
+      out = c.drop-guard-then-guard-len.ensures ∙ sym done.1;
+      same = refl;
+      stored = refl;
+      floors = refl;
+      bytes = refl;
+    }
 
 pub slice_bounds-copy_from_slice-end-2 : goal.slice_bounds-copy_from_slice-end-2
 slice_bounds-copy_from_slice-end-2 c =
-    let memory : List ℕ = vec_items c.args.self.now.memory in
-    let within = span_within memory c.args.entry _ (sym c.place.ensures ∙ c.in_ok-begin.was) in
-    omega (arith, within.1, ap length c.deref.ensures.value)
+    let at = c.in_ok-place.ensures.found in
+    omega (arith, at.within, ap length c.deref.ensures.value, ap (λ v. length v.items) c.self.view_is)
 
 pub returns : goal.returns
 returns c =
-    let memory : List ℕ = vec_items c.args.self.now.memory in
-    let at = c.in_ok-begin.field-0 in
-    let p = sym c.place.ensures ∙ c.in_ok-begin.was in
-    let within = span_within memory c.args.entry at p in
-    let n = span_length memory c.args.entry at p in
-    let done = read_given (tape memory) c.args.entry c.args.out.now _ (span_entry memory c.args.entry at p) (omega (arith, c.if-guard-len.false, n)) in
-    let copy = c.copy_from_slice.ensures.after ∙ ap (λ m. take (at.end - at.begin) (drop at.begin m)) c.deref.ensures.value in
+    let memory = c.args.self.now.items in
+    let place = c.in_ok-place.place in
+    let at = c.in_ok-place.ensures.found in
+    let n = stands-length memory c.args.entry _ at in
+    let bytes = c.deref.ensures.value ∙ ap (λ v. v.items) c.self.view_is in
+    let given = c.copy_from_slice.ensures.after ∙ ap (λ m. take (place.end - place.start) (drop place.start m)) bytes in
+    let copy =
+    read-part memory c.args.out.now c.copy_from_slice.new.self place.start place.end c.len-len.result (omega (arith, at.rises)) given (omega (arith, at.rises, at.within))
+    ∙ ap (λ k. part place.start k memory ++ drop (length (part place.start k memory)) c.args.out.now) c.len-len.ensures.value in
+    let done = read_given (tape memory) c.args.entry c.args.out.now _ at.stands (omega (arith, c.if-guard-len.false, n)) in
     record {
-      answer = ap Ok (sym n) ∙ sym done.0;
-      out = c.drop-guard-2.ensures ∙ read-part memory c.args.out.now c.copy_from_slice.new.self at.begin at.end (at.end - at.begin) (omega (arith, within)) copy (omega (arith, within)) ∙ sym done.1;
+      answer = ap Ok (omega (arith, n)) ∙ sym done.0;
+      out = c.drop-guard-2.ensures ∙ copy ∙ sym done.1;
       same = refl;
       stored = refl;
       floors = refl;
