@@ -19,27 +19,21 @@ runs : Runs
 unfolding rounds
 runs = record { one = (refl, refl, refl); word = (refl, refl, refl); falls = (refl, refl, refl); still = (refl, refl, refl) }
 
--- a blanked memory means an empty roll
-blanked : (name : ℕ) (memory : List ℕ) → name < 2 ^ 32 → 16 ≤ length memory → length memory ≤ 65536 → tape (blank_after name memory) ≡ blank_roll name (length memory)
-blanked name memory small long short =
-    ap tape (cond-true _ _ _ (and_from _ _ (le-leb _ _ long) (le-leb _ _ short))) ∙ blank_means name memory small long short
+-- a blanked memory of n bytes means an empty roll
+blanked : (name n : ℕ) (memory : List ℕ) → name < 2 ^ 32 → 16 ≤ n → n ≤ 65536 → length memory ≡ n → tape (blank_after name memory) ≡ blank_roll name n
+blanked name n memory small long short e =
+    let low : 16 ≤ length memory = omega arith in
+    let high : length memory ≤ 65536 = omega arith in
+    ap tape (cond-true _ _ _ (and_from _ _ (le-leb _ _ low) (le-leb _ _ high))) ∙ blank_means name memory small low high ∙ ap (blank_roll name) e
 
--- what an append of no bytes to one of n bytes is answered
-answered : (name n : ℕ) (memory : List ℕ) → name < 2 ^ 32 → 16 ≤ n → n ≤ 65536 → length memory ≡ n → append_answer (tape (blank_after name memory)) [] ≡ append_answer (blank_roll name n) []
-answered name n memory small long short e = ap (λ m. append_answer m []) (blanked name memory small (omega arith) (omega arith) ∙ ap (blank_roll name) e)
-
--- the same under a floor
-answered-above : (l : Layer) (name n : ℕ) (memory : List ℕ) → name < 2 ^ 32 → 16 ≤ n → n ≤ 65536 → length memory ≡ n
-    → append_answer (piled (l ∷ []) (tape (blank_after name memory))) [] ≡ append_answer (raised l (blank_roll name n)) []
-answered-above l name n memory small long short e = ap (λ m. append_answer (raised l m) []) (blanked name memory small (omega arith) (omega arith) ∙ ap (blank_roll name) e)
-
+-- what an append of no bytes to one is answered, by computing
 blanks : Blanks
 unfolding raised
 blanks = record {
-  takes = λ name memory small e. answered name 20 memory small (omega arith) (omega arith) e;
-  refuses = λ name memory small e. answered name 16 memory small (omega arith) (omega arith) e;
-  floor_takes = λ l name memory small e. answered-above l name 28 memory small (omega arith) (omega arith) e;
-  floor_refuses = λ l name memory small e. answered-above l name 27 memory small (omega arith) (omega arith) e;
+  takes = λ name memory small e. ap (λ m. append_answer m []) (blanked name 20 memory small (omega arith) (omega arith) e);
+  refuses = λ name memory small e. ap (λ m. append_answer m []) (blanked name 16 memory small (omega arith) (omega arith) e);
+  floor_takes = λ l name memory small e. ap (λ m. append_answer (raised l m) []) (blanked name 28 memory small (omega arith) (omega arith) e);
+  floor_refuses = λ l name memory small e. ap (λ m. append_answer (raised l m) []) (blanked name 27 memory small (omega arith) (omega arith) e);
 }
 
 -- the bound under floors
@@ -72,8 +66,8 @@ module _ (l : Layer) (memory t : List ℕ) (o : InOrder memory) where
 
 floors : Floors
 floors = record {
-  refuses = λ l memory t o e. too_long_above l memory t o e;
-  takes = λ l memory t o e free cheap. taken_above l memory t o e free cheap;
+  refuses = too_long_above;
+  takes = taken_above;
   one = λ ls memory o e. bounds ls (tape memory) ∙ omega (arith, e, tape-bound memory o);
   none = λ ls memory o e. bounds ls (tape memory) ∙ omega (arith, e, tape-bound memory o);
 }

@@ -2,22 +2,18 @@
 
 mod alteration;
 mod failures;
-mod label;
-mod nonce;
 mod pocket_calls;
 mod sealed_bytes;
 mod studio_key;
 
 use crate::alteration::altered;
 use crate::failures::failure;
-use crate::label::Label;
-use crate::nonce::Nonce;
 use crate::pocket_calls::work_pocket;
-use crate::sealed_bytes::{all_zero, tag_of};
+use crate::sealed_bytes::all_zero;
 use crate::studio_key::read_key;
-use anyhow::anyhow;
+use anyhow::{bail, ensure};
 use hexadecimal::Hex;
-use roll::Kind;
+use roll::{Kind, Label, Nonce};
 use std::fs;
 use tinyjambu::{BitEngine, Key, WordEngine};
 
@@ -39,19 +35,13 @@ const LABEL: Label = Label {
 
 // The bytes of a file.
 fn read_file(rt: &HostRuntime, file: &str) -> anyhow::Result<Vec<u8>> {
-    match fs::read(rt, file) {
-        Ok(bytes) => Ok(bytes),
-        Err(error) => Err(failure(file, error)),
-    }
+    fs::read(rt, file).map_err(|error| failure(file, error))
 }
 
 // The key of the key file.
 fn read_key_file(rt: &HostRuntime) -> anyhow::Result<Key> {
     let bytes = read_file(rt, KEY_FILE)?;
-    match read_key(rt.alloc(), &bytes) {
-        Ok(key) => Ok(key),
-        Err(fault) => Err(failure(KEY_FILE, fault)),
-    }
+    read_key(rt.alloc(), &bytes).map_err(|fault| failure(KEY_FILE, fault))
 }
 
 // Seals the scene with the word engine and writes the sealed file.
@@ -59,16 +49,14 @@ fn check_in(rt: &HostRuntime, key: Key, scene: &[u8]) -> anyhow::Result<()> {
     let heap = rt.alloc();
     let mut sealed = vec![in heap; 0u8; scene.len().saturating_add(8)]?;
     let mut engine = WordEngine::new(key);
-    if let Err(fault) = LABEL.seal(&mut engine, scene, &mut sealed) {
-        return Err(failure(SEALED_FILE, fault));
-    }
-    if let Err(error) = fs::write(rt, SEALED_FILE, sealed.as_slice()) {
-        return Err(failure(SEALED_FILE, error));
-    }
+    LABEL
+        .seal(&mut engine, scene, &mut sealed)
+        .map_err(|fault| failure(SEALED_FILE, fault))?;
+    fs::write(rt, SEALED_FILE, sealed.as_slice()).map_err(|error| failure(SEALED_FILE, error))?;
     let len = sealed.len();
     println!(rt; "{SEALED_FILE}: sealed with the word engine and written, {len} bytes")?;
-    let Some(tag) = tag_of(&sealed) else {
-        return Err(anyhow!("the sealed file has no tag"));
+    let Some(tag) = sealed.last_chunk::<8>() else {
+        bail!("the sealed file has no tag");
     };
     let tag = Hex(tag);
     println!(rt; "{SEALED_FILE}: its last 8 bytes are the tag {tag}")?;
@@ -80,14 +68,14 @@ fn check_out(rt: &HostRuntime, key: Key, scene: &[u8], sealed: &[u8]) -> anyhow:
     let heap = rt.alloc();
     let mut opened = vec![in heap; 0u8; scene.len()]?;
     let mut engine = BitEngine::new(key);
-    let len = match LABEL.open(&mut engine, sealed, &mut opened) {
-        Ok(len) => len,
-        Err(fault) => return Err(failure(SEALED_FILE, fault)),
-    };
+    let len = LABEL
+        .open(&mut engine, sealed, &mut opened)
+        .map_err(|fault| failure(SEALED_FILE, fault))?;
     println!(rt; "{SEALED_FILE}: opened with the bit engine, {len} bytes")?;
-    if len != scene.len() || opened.as_slice() != scene {
-        return Err(anyhow!("the sealed file does not open to the scene"));
-    }
+    ensure!(
+        len == scene.len() && opened.as_slice() == scene,
+        "the sealed file does not open to the scene"
+    );
     println!(rt; "{SEALED_FILE}: what it holds is {SCENE_FILE}, byte for byte")?;
     Ok(())
 }
@@ -96,19 +84,20 @@ fn check_out(rt: &HostRuntime, key: Key, scene: &[u8], sealed: &[u8]) -> anyhow:
 fn check_altered(rt: &HostRuntime, key: Key, sealed: &mut [u8]) -> anyhow::Result<()> {
     let heap = rt.alloc();
     let Some(at) = altered(sealed) else {
-        return Err(anyhow!("the sealed file is empty"));
+        bail!("the sealed file is empty");
     };
     println!(rt; "{SEALED_FILE}: byte {at} of what was read is altered by its lowest bit")?;
     let mut out = vec![in heap; 0xaau8; sealed.len()]?;
     let len = out.len();
     let mut engine = BitEngine::new(key);
     match LABEL.open(&mut engine, sealed, &mut out) {
-        Ok(_) => return Err(anyhow!("altered bytes were opened")),
+        Ok(_) => bail!("altered bytes were opened"),
         Err(fault) => println!(rt; "altered: {fault}")?,
     }
-    if !all_zero(&out) {
-        return Err(anyhow!("a refused opening left bytes in the out buffer"));
-    }
+    ensure!(
+        all_zero(&out),
+        "a refused opening left bytes in the out buffer"
+    );
     println!(rt; "altered: the out buffer of {len} bytes is all zeros")?;
     Ok(())
 }

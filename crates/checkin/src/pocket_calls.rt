@@ -1,11 +1,11 @@
-use anyhow::anyhow;
+use anyhow::ensure;
 use pocket::Pocket;
 use roll::{Answer, Call, hand_in, work};
 
 // The name of the pocket.
 const NAME: u32 = 7;
 
-// What a call is called.
+// What a call is called. (A `Display` would have to stand in the library of rolls, which prints nothing.)
 fn title(call: &Call<'_>) -> &'static str {
     match call {
         Call::Append(_) => "append",
@@ -41,7 +41,7 @@ pub(crate) fn work_pocket(rt: &HostRuntime, sealed: &[u8]) -> anyhow::Result<()>
     let heap = rt.alloc();
     let calls = [
         Call::Append(sealed),
-        Call::Append(&sealed[0..0]),
+        Call::Append(&[]),
         Call::Append(sealed),
         Call::Append(sealed),
         Call::Append(sealed),
@@ -63,12 +63,13 @@ pub(crate) fn work_pocket(rt: &HostRuntime, sealed: &[u8]) -> anyhow::Result<()>
     let mut answers = Vec::new(heap);
     let mut texts = Vec::new(heap);
     work(&mut pocket, &calls, &mut answers, &mut texts)?;
-    for (call, answer) in calls.iter().zip(answers.iter()) {
+    for (call, answer) in calls.iter().zip(&answers) {
         print_answer(rt, call, answer)?;
     }
-    if texts.as_slice() != sealed {
-        return Err(anyhow!("the pocket does not give back the sealed file"));
-    }
+    ensure!(
+        texts.as_slice() == sealed,
+        "the pocket does not give back the sealed file"
+    );
     println!(rt; "pocket: what was read is the sealed file, byte for byte")?;
     Ok(())
 }

@@ -4,25 +4,18 @@ ghost use Rattle.engine.specs.Keys.{key_of};
 
 use hexadecimal::{HexFault, decode};
 use std::alloc::Global;
-use std::fmt;
+use thiserror::Error;
 use tinyjambu::Key;
 
 // Why a text is no key of the studio.
-#[derive(Debug, Drop)]
+#[derive(Debug, Drop, Error)]
 pub enum KeyFault {
+    #[error("not one line of 32 hexadecimal digits")]
     NotOneLine,
+    #[error("a character of the key is no hexadecimal digit")]
     NotDigits,
+    #[error("no memory for the key")]
     NoMemory,
-}
-
-impl fmt::Display for KeyFault {
-    fn fmt<W: fmt::Write>(&self, f: &mut fmt::Formatter<W>) -> fmt::Result {
-        f.write_str(match self {
-            KeyFault::NotOneLine => "not one line of 32 hexadecimal digits",
-            KeyFault::NotDigits => "a character of the key is no hexadecimal digit",
-            KeyFault::NoMemory => "no memory for the key",
-        })
-    }
 }
 
 impl From<HexFault> for KeyFault {
@@ -43,9 +36,7 @@ fn key_of(heap: Global, digits: &[u8]) -> Result<Key, KeyFault>
     }
     let bytes = decode(heap, digits)?;
     let mut key = Key::new();
-    if key.fill(&bytes).is_err() {
-        return Err(KeyFault::NotOneLine);
-    }
+    key.fill(&bytes).map_err(|_| KeyFault::NotOneLine)?;
     Ok(key)
 }
 

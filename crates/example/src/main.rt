@@ -2,6 +2,7 @@
 
 ghost use Rattle.std.specs.Prelude.{◌≡◌, [], ◌∷◌, Some};
 ghost use Rattle.engine.specs.Keys.{key_of};
+ghost use Rattle.roll.specs.Roll.{append_answer, image_after};
 ghost use Rattle.roll.specs.Life.{image_by};
 ghost use Rattle.tape.specs.Tape.{tape, tape_put};
 ghost use Rattle.floor.specs.Laid.{layer};
@@ -10,6 +11,14 @@ use floor::{Floor, Lay};
 use roll::{Kind, Roll};
 use tape::{Tape, blank};
 use tinyjambu::{Fault, Key, WordEngine};
+
+// Appends a text to a roll, and reads it back into `out`.
+fn append_and_read<R: Roll>(roll: &mut R, text: &[u8], out: &mut [u8]) -> Result<usize, Fault>
+    ensures bytes { R.Roll.image roll.new ≡ image_after (append_answer (R.Roll.meaning roll.old) text.now) (R.Roll.put roll.old text.now) (R.Roll.image roll.old) }
+{
+    let entry = roll.append(text)?;
+    roll.read(entry, out)
+}
 
 // Lays the distributor's floor and then the studio's on a tape, appends a text, reads it back into `out`, and lifts both
 // floors again. The memory is then the tape with the text sealed by the studio and then by the distributor.
@@ -28,10 +37,7 @@ fn keep(
         Kind::Scene,
     );
     let mut pile = Floor::lay(lower, WordEngine::new(studio), Kind::Scene);
-    let answer = match pile.append(text) {
-        Ok(entry) => pile.read(entry, out),
-        Err(fault) => Err(fault),
-    };
+    let answer = append_and_read(&mut pile, text, out);
     let (lower, _) = pile.lift();
     let (tape, _) = lower.lift();
     (tape.into_memory(), answer)

@@ -1,15 +1,14 @@
-ghost use Rattle.std.specs.Prelude.{◌≡◌, ◌∷◌, refl};
+ghost use Rattle.std.specs.Prelude.{◌≡◌, [], ◌∷◌, refl};
 ghost use Rattle.std.proofs.Common.{ap};
-ghost use Rattle.roll.specs.Roll.{count};
-ghost use Rattle.refusal.specs.Refusals.{fault};
-ghost use Rattle.roll.specs.Floor.{raised, sealed};
+ghost use Rattle.roll.specs.Roll.{count, append_answer};
+ghost use Rattle.roll.specs.Floor.{nonce, above, raised, sealed};
 ghost use Rattle.roll.specs.Kinds.{kind_byte};
+ghost use Rattle.roll.specs.Labels.{nonce_of, data_of};
 ghost use Rattle.roll.specs.Laws.{raised_lawful};
 ghost use Rattle.floor.specs.Laid.{layer};
 
 use crate::lay::Lay;
-use crate::nonces::nonce;
-use roll::{Kind, Roll};
+use roll::{Kind, LONGEST, Label, MOST, Nonce, Roll};
 use tinyjambu::{Engine, Fault, Refusal, Wipe};
 
 // A seal of its own over each entry of the roll below.
@@ -26,14 +25,39 @@ const TAG: u32 = 8;
 // The number of the highest floors.
 const HIGHEST: u32 = 65535;
 
-// A refusal of an entry at a floor.
-fn fault(refusal: Refusal, floor: u32, entry: u32) -> Fault
-    ensures { result ≡ fault refusal floor entry }
-{
-    Fault {
-        refusal,
-        floor,
-        entry,
+impl<R: Roll, E: Engine> Floor<R, E> {
+    // The number that a text will have as an entry, or why it is refused.
+    fn admit(&self, text: &[u8]) -> Result<u32, Fault>
+        ensures { result ≡ append_answer (raised (layer (E.key self.now.engine) (kind_byte self.now.kind)) (R.Roll.meaning self.now.below)) text.now }
+    {
+        let floor = self.floor();
+        let entry = self.count();
+        let len = text.len();
+        if len >= self.bound() as usize {
+            return Err(Refusal::EntryTooLong.at(floor, entry));
+        }
+        if entry >= MOST {
+            return Err(Refusal::RollFull.at(floor, entry));
+        }
+        if self.space() < self.charge(len as u32) {
+            return Err(Refusal::NoSpace.at(floor, entry));
+        }
+        Ok(entry)
+    }
+
+    // What an entry is sealed under.
+    fn label(&self, entry: u32) -> Label
+        ensures nonce { nonce_of result ≡ nonce (R.Roll.meaning self.now.below).name (above (R.Roll.meaning self.now.below)) entry }
+        ensures data { data_of result ≡ kind_byte self.now.kind ∷ [] }
+    {
+        Label {
+            nonce: Nonce {
+                name: self.name(),
+                floor: self.floor(),
+                entry,
+            },
+            kind: self.kind,
+        }
     }
 }
 
@@ -84,49 +108,36 @@ impl<R: Roll, E: Engine> Roll for Floor<R, E> {
     }
 
     fn length(&self, entry: u32) -> Result<usize, Fault> {
-        match self.below.length(entry) {
-            Ok(n) => Ok(n.saturating_sub(TAG as usize)),
-            Err(_) => Err(fault(Refusal::NoEntry, self.floor(), entry)),
-        }
+        self.below
+            .length(entry)
+            .map(|n| n.saturating_sub(TAG as usize))
+            .map_err(|_| Refusal::NoEntry.at(self.floor(), entry))
     }
 
     // It refuses before it seals: the nonce of a refused text comes again.
     fn append(&mut self, text: &[u8]) -> Result<u32, Fault> {
-        let floor = self.floor();
-        let entry = self.count();
-        let len = text.len();
-        if len >= self.bound() as usize {
-            return Err(fault(Refusal::EntryTooLong, floor, entry));
-        }
-        if entry >= 4095 {
-            return Err(fault(Refusal::RollFull, floor, entry));
-        }
-        if self.space() < self.charge(len as u32) {
-            return Err(fault(Refusal::NoSpace, floor, entry));
-        }
-        let nonce = nonce(self.name(), floor, entry);
-        let kind = [self.kind.byte()];
-        let mut sealed = [0u8; 4096];
-        let n = tinyjambu::seal(&mut self.engine, &nonce, &kind, text, &mut sealed).unwrap();
-        self.below.append(&sealed[0..n])
+        let entry = self.admit(text)?;
+        let label = self.label(entry);
+        let mut sealed = [0u8; LONGEST];
+        let n = label.seal(&mut self.engine, text, &mut sealed).unwrap();
+        self.below.append(&sealed[..n])
     }
 
     // It opens what it read below straight into `out`.
     fn read(&mut self, entry: u32, out: &mut [u8]) -> Result<usize, Fault> {
         let mut guard = Wipe { out, kept: false };
         let len = self.length(entry)?;
+        let label = self.label(entry);
         let floor = self.floor();
         if guard.out.len() < len {
-            return Err(fault(Refusal::OutTooShort, floor, entry));
+            return Err(Refusal::OutTooShort.at(floor, entry));
         }
-        let mut sealed = [0u8; 4096];
+        let mut sealed = [0u8; LONGEST];
         let n = self.below.read(entry, &mut sealed)?;
-        let nonce = nonce(self.name(), floor, entry);
-        let kind = [self.kind.byte()];
         let text = &mut guard.out[0..len];
-        if tinyjambu::open(&mut self.engine, &nonce, &kind, &sealed[0..n], text).is_err() {
-            return Err(fault(Refusal::Broken, floor, entry));
-        }
+        label
+            .open(&mut self.engine, &sealed[..n], text)
+            .map_err(|_| Refusal::Broken.at(floor, entry))?;
         guard.kept = true;
         Ok(len)
     }

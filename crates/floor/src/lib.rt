@@ -1,8 +1,7 @@
-#![tactic(auto)]
+#![tactic(auto, unfolding(roll::specs::Floor::raised))]
 
 mod floor;
 mod lay;
-mod nonces;
 
 pub use floor::Floor;
 pub use lay::Lay;

@@ -1,5 +1,5 @@
 -- Two rolls compared entry by entry.
-use Rattle.std.proofs.Common.{◌≡◌, ℕ, zero, suc, ◌<◌, ◌≤◌, Bool, List, [], ◌∷◌, length, drop, Some, None, Decides, Option, sym, refl, subst, subst₂, ⊎_elim, arith}
+use Rattle.std.proofs.Common.{◌≡◌, ℕ, zero, suc, ◌<◌, ◌≤◌, Bool, List, [], ◌∷◌, length, drop, Some, None, Decides, Option, sym, refl, subst₂, ⊎_elim, arith}
 use Rattle.std.proofs.lemmas.Bool.{cases_lt}
 use Rattle.roll.specs.Roll.{Meaning, Entry, text, broken, count, entry, first}
 use Rattle.roll.specs.Agree.{AlikeThere, Agree}
@@ -16,17 +16,6 @@ broken_alike (Some (text t)) e p q = absurd p
 broken_alike (Some (broken f n)) None p q = absurd q
 broken_alike (Some (broken f n)) (Some (text t)) p q = absurd q
 broken_alike (Some (broken f n)) (Some (broken g k)) p q = tt
-
--- a text and a broken entry are not
-pub text_broken : (d e : Option Entry) (t : List ℕ) → d ≡ Some (text t) → BrokenThere e → AlikeThere d e → ⊥
-text_broken d None t p q a = q
-text_broken d (Some (text u)) t p q a = q
-text_broken d (Some (broken f n)) t p q a = subst (λ x. AlikeThere x (Some (broken f n))) p a
-
-pub broken_text : (d e : Option Entry) (t : List ℕ) → BrokenThere d → e ≡ Some (text t) → AlikeThere d e → ⊥
-broken_text None e t p q a = p
-broken_text (Some (text u)) e t p q a = p
-broken_text (Some (broken f n)) e t p q a = subst (λ x. AlikeThere (Some (broken f n)) x) q a
 
 -- behind the end there is nothing
 past_end : (es : List Entry) (i : ℕ) → length es ≤ i → first (drop i es) ≡ None

@@ -42,13 +42,9 @@ pub entry-raised : (l : Layer) (m : Meaning) (i : ℕ) → entry (raised l m) i 
 unfolding raised
 entry-raised l m i = raised_at l m 0 i m.entries ∙ ap (λ k. raised_option l m k (entry m i)) (zero-add i)
 
--- a broken entry is no text
-broken_text : {A : Type 0} {f n : ℕ} {t : List ℕ} → broken f n ≡ text t → A
-broken_text e = let z : ◌≡◌ {A = ℕ} 0 1 = cc in absurd (omega arith)
-
 -- a shown text is what the opening gave
 opened_text : (f n : ℕ) (o : Option (List ℕ)) (t : List ℕ) → opened_entry f n o ≡ text t → o ≡ Some t
-opened_text f n None t e = broken_text e
+opened_text f n None t e = absurd cc
 opened_text f n (Some u) t e = cc
 
 -- what was sealed opens to the text
@@ -61,7 +57,7 @@ text_raised l m i t = ap (opened_entry _ _) (opened-sealed (seal_at l m i) t)
 
 -- a shown text is sealed below
 text_below : (l : Layer) (m : Meaning) (i : ℕ) (e : Entry) (t : List ℕ) → raised_entry l m i e ≡ text t → e ≡ text (apply_seal (seal_at l m i) t)
-text_below l m i (broken f n) t p = broken_text p
+text_below l m i (broken f n) t p = absurd cc
 text_below l m i (text c) t p = ap text (sym ((opened_exactly _ _ _ c t).0 (opened_text _ _ _ t p)))
 
 -- the same of an entry that may not be there

@@ -1,5 +1,6 @@
 -- What a roll answers to a read and to a question for a length, by what stands under the number.
 use Rattle.std.proofs.Common.{◌≡◌, ℕ, zero, suc, ◌<◌, ◌≤◌, List, [], ◌∷◌, ◌++◌, length, take, drop, replicate, Some, None, Ok, Err, Option, Result, sym, refl, ap, ◌∙◌, ap₂, arith}
+use lib.ListN.{length-replicate}
 use Rattle.std.proofs.lemmas.Bool.{cond-true, cond-false, lt-ltb, le-ltb}
 use Rattle.refusal.specs.declared.fault.Fault.{Fault}
 use Rattle.refusal.specs.declared.refusal.Refusal.TheVariants.{NoEntry, OutTooShort, Broken}
@@ -54,26 +55,37 @@ entry_there [] i h e = absurd (omega arith)
 entry_there (x ∷ es) zero h e = none_some (sym e)
 entry_there (x ∷ es) (suc i) h e = entry_there es i (omega arith) e
 
--- what a read of a lawful roll into 4,096 bytes tells of the entry
-module _ (m : Meaning) (i : ℕ) (out : List ℕ) (lawful : Lawful m) (long : length out ≡ 4096) where
-  -- a broken entry is refused
-  broken_refused : (f n : ℕ) → entry m i ≡ Some (broken f n) → read_answer m i (length out) ≡ Err (fault Broken f i)
-  broken_refused f n e = (read_broken m i out f n e (omega (arith, entries_fit m i (broken f n) lawful e, long))).0
+-- the buffer that is read into
+abbrev zeros : List ℕ
+zeros = replicate {A = ℕ} 4096 0
 
-  -- one that was given was a text
-  pub was_text : (n : ℕ) → read_answer m i (length out) ≡ Ok n → entry m i ≡ Some (text (take n (read_out m i out)))
-  was_text n a = from (entry m i) refl
+-- is as long as it says
+long : length zeros ≡ 4096
+long = length-replicate {A = ℕ} 4096 0
+
+-- what a read of a lawful roll into 4,096 zeros tells of the entry, by the answer r and the buffer afterwards
+module _ (m : Meaning) (i : ℕ) (r : Result ℕ Fault) (out : List ℕ) (lawful : Lawful m) (r-is : r ≡ read_answer m i (length zeros)) (out-is : out ≡ read_out m i zeros) where
+  -- a broken entry is refused
+  broken_refused : (f n : ℕ) → entry m i ≡ Some (broken f n) → read_answer m i (length zeros) ≡ Err (fault Broken f i)
+  broken_refused f n e = (read_broken m i zeros f n e (omega (arith, entries_fit m i (broken f n) lawful e, long))).0
+
+  -- one that was given was a text, which stands at the start of the buffer
+  pub gave : (n : ℕ) → r ≡ Ok n → entry m i ≡ Some (text (take n out))
+  gave n p = from (entry m i) refl
     where
-      from : (o : Option Entry) → entry m i ≡ o → entry m i ≡ Some (text (take n (read_out m i out)))
-      from None e = never _ _ _ (read_missing m i out e).0 a
+      a : read_answer m i (length zeros) ≡ Ok n
+      a = sym r-is ∙ p
+
+      from : (o : Option Entry) → entry m i ≡ o → entry m i ≡ Some (text (take n out))
+      from None e = never _ _ _ (read_missing m i zeros e).0 a
       from (Some (broken f k)) e = never _ _ _ (broken_refused f k e) a
-      from (Some (text t)) e = e ∙ ap (λ x. Some (text x)) (sym ((read_told m i n out lawful long a).1 ∙ ap text_at e))
+      from (Some (text t)) e = e ∙ ap (λ x. Some (text x)) (sym (ap (take n) out-is ∙ (read_told m i n zeros lawful long a).1 ∙ ap text_at e))
 
   -- one that was refused was broken
-  pub was_broken : (f : Fault) → i < count m → read_answer m i (length out) ≡ Err f → BrokenThere (entry m i)
-  was_broken f h a = from (entry m i) refl
+  pub kept_back : (f : Fault) → i < count m → r ≡ Err f → BrokenThere (entry m i)
+  kept_back f h p = from (entry m i) refl
     where
       from : (o : Option Entry) → entry m i ≡ o → BrokenThere o
       from None e = entry_there m.entries i h e
       from (Some (broken g k)) e = tt
-      from (Some (text t)) e = never _ _ _ a (read_given m i out t e (omega (arith, entries_fit m i (text t) lawful e, long))).0
+      from (Some (text t)) e = never _ _ _ (sym r-is ∙ p) (read_given m i zeros t e (omega (arith, entries_fit m i (text t) lawful e, long))).0

@@ -54,7 +54,7 @@ after_is m t r e = ap (after_answer m t) e
 
 -- entries, by their numbers
 pub none_some : {X A : Type 0} {x : X} → None ≡ Some x → A
-none_some e = let z : ◌≡◌ {A = ℕ} 0 1 = cc in absurd (omega arith)
+none_some e = absurd cc
 
 -- an entry stays where more are put behind it
 pub entry_old : (i : ℕ) (es fs : List Entry) (e : Entry) → first (drop i es) ≡ Some e → first (drop i (es ++ fs)) ≡ Some e
@@ -217,7 +217,7 @@ ok_one e = cc
 
 -- a refusal is no answer with a number
 pub never : {A : Type 0} (f : Fault) (n : ℕ) (r : Result ℕ Fault) → r ≡ Err f → r ≡ Ok n → A
-never f n r p q = let z : ◌≡◌ {A = ℕ} 0 1 = cc in absurd (omega arith)
+never f n r p q = absurd cc
 
 -- a read text is that of the entry
 read_text : (m : Meaning) (i : ℕ) (o : Option Entry) (t : List ℕ) → ((e : Entry) → o ≡ Some e → entry_length e ≤ 4096) → Read m i o t → o ≡ Some (text t)
@@ -289,10 +289,7 @@ record Since (m a : Meaning) (ks : List Kept) : Type 0 where
 fair_taken : (m a : Meaning) (ks : List Kept) (t : List ℕ) → Since m a ks → Takes a t → FairAppend m ks t (Appended (Ok (count a)))
 fair_taken m a ks t s h fits room =
     let p = ap (λ f. f (length t)) s.charge in
-    (λ e. none_kept e, λ dear. absurd (omega (arith, dear, p, s.spent, h.paid)))
-  where
-    none_kept : {A : Type 0} {k : Kept} {ks : List Kept} → k ∷ ks ≡ [] → A
-    none_kept e = let z : ◌≡◌ {A = ℕ} 0 1 = cc in absurd (omega arith)
+    (λ e. absurd cc, λ dear. absurd (omega (arith, dear, p, s.spent, h.paid)))
 
 -- and a refused one
 fair_refused : (m a : Meaning) (ks : List Kept) (t : List ℕ) (f : Fault) → Since m a ks → append_answer a t ≡ Err f → FairAppend m ks t (Appended (Err f))

@@ -7,3 +7,5 @@ pub mod Teeth
 pub mod Work
 pub mod Kinds
 pub mod Agree
+pub mod Labels
+pub mod Same

@@ -9,15 +9,11 @@ pub enum Kind {
     Lock = 3,
 }
 
-impl Kind {
-    // The byte of the kind.
-    pub fn byte(self) -> u8
-        ensures { result ≡ kind_byte self }
-    {
-        match self {
-            Kind::Scene => 1,
-            Kind::Preview => 2,
-            Kind::Lock => 3,
-        }
+// The byte of a kind.
+impl From<Kind> for u8 {
+    ghost from_gives = { λ kind byte. byte ≡ kind_byte kind };
+
+    fn from(kind: Kind) -> u8 {
+        kind as u8
     }
 }

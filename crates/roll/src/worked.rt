@@ -1,39 +1,39 @@
-ghost use Rattle.std.specs.Prelude.{◌≡◌, ◌+◌, ◌*◌, ◌≤◌, true, ◌++◌, length, is_ok, vec_len, vec_capacity, MatchResult, OnOk};
+ghost use Rattle.std.specs.Prelude.{◌≡◌, ◌+◌, ◌*◌, ◌≤◌, ◌++◌, length, vec_len, vec_capacity, IsOk, OnOk, OnErr};
 ghost use Rattle.roll.specs.Roll.{entry, read_answer};
 ghost use Rattle.roll.specs.Life.{answer, appends, stored, image_by, image_after_all};
+ghost use Rattle.roll.specs.Same.{Same};
 ghost use Rattle.roll.specs.Work.{heard, all_heard, reads, told, text_at, Worked};
 
 use crate::answer::Answer;
 use crate::call::Call;
+use crate::limits::LONGEST;
 use crate::roll::Roll;
 use std::alloc::AllocError;
 use tinyjambu::Fault;
 
 // Reads entry `number`, and puts its text at the end of `texts`, which has room for it.
 fn read_text<R: Roll>(roll: &mut R, number: u32, texts: &mut Vec<u8>) -> Result<usize, Fault>
-    requires { vec_len texts.old + 4096 ≤ vec_capacity texts.old }
-    ensures result { result ≡ read_answer (R.Roll.meaning roll.old) number 4096 }
+    requires { vec_len texts.old + LONGEST ≤ vec_capacity texts.old }
+    ensures result { result ≡ read_answer (R.Roll.meaning roll.old) number LONGEST }
     ensures told { texts.new.items ≡ texts.old.items ++ text_at (entry (R.Roll.meaning roll.old) number) }
-    ensures len { vec_len texts.new ≤ vec_len texts.old + 4096 }
+    ensures len { vec_len texts.new ≤ vec_len texts.old + LONGEST }
     ensures room { vec_capacity texts.old ≤ vec_capacity texts.new }
-    ensures stored { R.Roll.bottom roll.new ≡ R.Roll.bottom roll.old }
-    ensures floors { R.Roll.layers roll.new ≡ R.Roll.layers roll.old }
-    ensures bytes { R.Roll.image roll.new ≡ R.Roll.image roll.old }
+    ensures same { Same R.Roll.meaning R.Roll.bottom R.Roll.layers R.Roll.image roll.old roll.new }
 {
-    let mut out = [0u8; 4096];
+    let mut out = [0u8; LONGEST];
     let r = roll.read(number, &mut out);
     if let Ok(n) = r {
-        texts.extend_from_slice(&out[0..n]).unwrap();
+        texts.extend_from_slice(&out[..n]).unwrap();
     }
     r
 }
 
 // Works one call, and puts the text that it reads at the end of `texts`, which has room for it.
 fn one<R: Roll>(roll: &mut R, call: &Call<'_>, texts: &mut Vec<u8>) -> Answer
-    requires { vec_len texts.old + 4096 ≤ vec_capacity texts.old }
+    requires { vec_len texts.old + LONGEST ≤ vec_capacity texts.old }
     ensures result { result ≡ answer (R.Roll.meaning roll.old) (heard call.now) }
     ensures told { texts.new.items ≡ texts.old.items ++ told (R.Roll.meaning roll.old) (reads (heard call.now)) }
-    ensures len { vec_len texts.new ≤ vec_len texts.old + 4096 }
+    ensures len { vec_len texts.new ≤ vec_len texts.old + LONGEST }
     ensures room { vec_capacity texts.old ≤ vec_capacity texts.new }
     ensures stored { R.Roll.bottom roll.new ≡ stored (R.Roll.layers roll.old) (R.Roll.bottom roll.old) (appends (heard call.now)) }
     ensures floors { R.Roll.layers roll.new ≡ R.Roll.layers roll.old }
@@ -60,14 +60,13 @@ pub fn work<R: Roll>(
     answers: &mut Vec<Answer>,
     texts: &mut Vec<u8>,
 ) -> Result<(), AllocError>
-    ensures worked { MatchResult result
-        (λ _. Worked (R.Roll.layers roll.old) (R.Roll.bottom roll.old) (R.Roll.bottom roll.new) (R.Roll.meaning roll.new) (all_heard calls.now) answers.new.items texts.new.items)
-        (λ _. (roll.new ≡ roll.old) × (answers.new.items ≡ answers.old.items) × (texts.new.items ≡ texts.old.items)) }
+    ensures worked { OnOk result (Worked (R.Roll.layers roll.old) (R.Roll.bottom roll.old) (R.Roll.bottom roll.new) (R.Roll.meaning roll.new) (all_heard calls.now) answers.new.items texts.new.items) }
+    ensures unchanged { OnErr result ((roll.new ≡ roll.old) × (answers.new.items ≡ answers.old.items) × (texts.new.items ≡ texts.old.items)) }
     ensures floors { R.Roll.layers roll.new ≡ R.Roll.layers roll.old }
     ensures bytes { OnOk result (R.Roll.image roll.new ≡ image_after_all R.Roll.writes (R.Roll.layers roll.old) (R.Roll.bottom roll.old) (R.Roll.image roll.old) (all_heard calls.now)) }
-    ensures room { vec_len answers.old + length calls.now ≤ vec_capacity answers.old → vec_len texts.old + 4096 * length calls.now ≤ vec_capacity texts.old → is_ok result ≡ true }
+    ensures room { vec_len answers.old + length calls.now ≤ vec_capacity answers.old → vec_len texts.old + LONGEST * length calls.now ≤ vec_capacity texts.old → IsOk result }
 {
-    let Some(room) = calls.len().checked_mul(4096) else {
+    let Some(room) = calls.len().checked_mul(LONGEST) else {
         return Err(AllocError);
     };
     answers.reserve(calls.len())?;

@@ -1,11 +1,11 @@
 -- The nonce and the associated data of a label, as bytes.
 use Rattle.std.specs.Prelude.{ℕ, List, [], ◌∷◌}
-use Rattle.engine.specs.Bytes.{word_bytes}
+use Rattle.roll.specs.Floor.{nonce}
 use Rattle.roll.specs.Kinds.{kind_byte}
-use Rattle.checkin.specs.declared.label.Label.{Label}
+use Rattle.roll.specs.declared.label.Label.{Label}
 
 abbrev pub nonce_of : Label → List ℕ
-nonce_of l = word_bytes (l.nonce.name ∷ l.nonce.floor ∷ l.nonce.entry ∷ [])
+nonce_of l = nonce l.nonce.name l.nonce.floor l.nonce.entry
 
 abbrev pub data_of : Label → List ℕ
 data_of l = kind_byte l.kind ∷ []

@@ -1,0 +1,5 @@
+// The most bytes that an entry has.
+pub const LONGEST: usize = 4096;
+
+// The most entries that a roll has.
+pub const MOST: u32 = 4095;
