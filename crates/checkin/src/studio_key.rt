@@ -1,6 +1,6 @@
 ghost use Rattle.hexadecimal.specs.Digits.{Spells};
 ghost use Rattle.std.specs.Prelude.{IfOk};
-ghost use Rattle.engine.specs.Keys.{key_of};
+ghost use Rattle.engine.specs.KeyBytes.{key_bytes};
 
 use hexadecimal::{HexFault, decode};
 use std::alloc::Global;
@@ -29,15 +29,13 @@ impl From<HexFault> for KeyFault {
 
 // The key that digits spell, if they are 32 hexadecimal digits.
 fn key_of(heap: Global, digits: &[u8]) -> Result<Key, KeyFault>
-    ensures { IfOk result (λ key. Spells digits.now (key_of key.words key.used)) }
+    ensures { IfOk result (λ key. Spells digits.now (key_bytes key)) }
 {
     if digits.len() != 32 {
         return Err(KeyFault::NotOneLine);
     }
     let bytes = decode(heap, digits)?;
-    let mut key = Key::new();
-    key.fill(&bytes).map_err(|_| KeyFault::NotOneLine)?;
-    Ok(key)
+    Key::try_from(bytes.as_slice()).map_err(|_| KeyFault::NotOneLine)
 }
 
 // The key that the bytes of a key file spell: one line of 32 hexadecimal digits.

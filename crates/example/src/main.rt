@@ -1,7 +1,7 @@
 #![tactic(auto)]
 
 ghost use Rattle.std.specs.Prelude.{◌≡◌, [], ◌∷◌, Some};
-ghost use Rattle.engine.specs.Keys.{key_of};
+ghost use Rattle.engine.specs.KeyBytes.{key_bytes};
 ghost use Rattle.roll.specs.Roll.{append_answer, image_after};
 ghost use Rattle.roll.specs.Life.{image_by};
 ghost use Rattle.tape.specs.Tape.{tape, tape_put};
@@ -29,7 +29,7 @@ fn keep(
     text: &[u8],
     out: &mut [u8],
 ) -> (Vec<u8>, Result<usize, Fault>)
-    ensures bytes { result.0.items ≡ image_by tape_put (layer (key_of studio.words studio.used) 1 ∷ layer (key_of distributor.words distributor.used) 1 ∷ []) (tape memory.items) memory.items (Some text.now) }
+    ensures bytes { result.0.items ≡ image_by tape_put (layer (key_bytes studio) 1 ∷ layer (key_bytes distributor) 1 ∷ []) (tape memory.items) memory.items (Some text.now) }
 {
     let lower = Floor::lay(
         Tape::open(memory),
@@ -43,18 +43,11 @@ fn keep(
     (tape.into_memory(), answer)
 }
 
-// A key of these bytes.
-fn key(bytes: &[u8]) -> Result<Key, Fault> {
-    let mut key = Key::new();
-    key.fill(bytes)?;
-    Ok(key)
-}
-
 fn main(rt: HostRuntime) -> anyhow::Result<()> {
     let mut memory = vec![in rt.alloc(); 0u8; 128]?;
     blank(&mut memory, 7)?;
-    let studio = key(b"a studio's key..")?;
-    let distributor = key(b"a distributor's key of 32 bytes.")?;
+    let studio = Key::try_from(b"a studio's key..".as_slice())?;
+    let distributor = Key::try_from(b"a distributor's key of 32 bytes.".as_slice())?;
     let mut out = [0u8; 64];
     let (memory, answer) = keep(
         memory,

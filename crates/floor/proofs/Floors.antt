@@ -58,6 +58,11 @@ module _ (l : Layer) (m : Meaning) (i : ℕ) (t n ad : List ℕ) (n-is : n ≡ n
       ap₂ (λ x y. take k (seal_out l.key x y t zeros)) n-is ad-is ∙ ap (λ x. take k (sealed_out x form zeros)) seal_passes
       ∙ take_at form _ k (omega (arith, seal_answered k e, long))
 
+-- the number of the floor l on m
+pub raised-floor : (l : Layer) (m : Meaning) → (raised l m).floor ≡ above m
+unfolding raised
+raised-floor l m = refl
+
 -- an append at the floor l, on a roll m that is the pile ls on b, of a text t that it takes, by the sealed form s that the program hands down
 module _ (l : Layer) (m : Meaning) (ls : List Layer) (b : Meaning) (t s : List ℕ) (p : m ≡ piled ls b) (s-is : s ≡ apply_seal (seal_at l m (count m)) t) where
   -- what the floors below make of that is what all floors make of the text

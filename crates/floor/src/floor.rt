@@ -26,11 +26,11 @@ const TAG: u32 = 8;
 const HIGHEST: u32 = 65535;
 
 impl<R: Roll, E: Engine> Floor<R, E> {
-    // The number that a text will have as an entry, or why it is refused.
-    fn admit(&self, text: &[u8]) -> Result<u32, Fault>
+    // The number that a text will have as an entry, or why it is refused at this floor.
+    fn admit(&self, floor: u32, text: &[u8]) -> Result<u32, Fault>
+        requires { floor ≡ above (R.Roll.meaning self.now.below) }
         ensures { result ≡ append_answer (raised (layer (E.key self.now.engine) (kind_byte self.now.kind)) (R.Roll.meaning self.now.below)) text.now }
     {
-        let floor = self.floor();
         let entry = self.count();
         let len = text.len();
         if len >= self.bound() as usize {
@@ -45,15 +45,15 @@ impl<R: Roll, E: Engine> Floor<R, E> {
         Ok(entry)
     }
 
-    // What an entry is sealed under.
-    fn label(&self, entry: u32) -> Label
-        ensures nonce { nonce_of result ≡ nonce (R.Roll.meaning self.now.below).name (above (R.Roll.meaning self.now.below)) entry }
+    // What an entry is sealed under at this floor.
+    fn label(&self, floor: u32, entry: u32) -> Label
+        ensures nonce { nonce_of result ≡ nonce (R.Roll.meaning self.now.below).name floor entry }
         ensures data { data_of result ≡ kind_byte self.now.kind ∷ [] }
     {
         Label {
             nonce: Nonce {
                 name: self.name(),
-                floor: self.floor(),
+                floor,
                 entry,
             },
             kind: self.kind,
@@ -116,8 +116,9 @@ impl<R: Roll, E: Engine> Roll for Floor<R, E> {
 
     // It refuses before it seals: the nonce of a refused text comes again.
     fn append(&mut self, text: &[u8]) -> Result<u32, Fault> {
-        let entry = self.admit(text)?;
-        let label = self.label(entry);
+        let floor = self.floor();
+        let entry = self.admit(floor, text)?;
+        let label = self.label(floor, entry);
         let mut sealed = [0u8; LONGEST];
         let n = label.seal(&mut self.engine, text, &mut sealed).unwrap();
         self.below.append(&sealed[..n])
@@ -125,10 +126,10 @@ impl<R: Roll, E: Engine> Roll for Floor<R, E> {
 
     // It opens what it read below straight into `out`.
     fn read(&mut self, entry: u32, out: &mut [u8]) -> Result<usize, Fault> {
-        let mut guard = Wipe { out, kept: false };
+        let guard = Wipe { out };
         let len = self.length(entry)?;
-        let label = self.label(entry);
         let floor = self.floor();
+        let label = self.label(floor, entry);
         if guard.out.len() < len {
             return Err(Refusal::OutTooShort.at(floor, entry));
         }
@@ -138,7 +139,7 @@ impl<R: Roll, E: Engine> Roll for Floor<R, E> {
         label
             .open(&mut self.engine, &sealed[..n], text)
             .map_err(|_| Refusal::Broken.at(floor, entry))?;
-        guard.kept = true;
+        guard.keep();
         Ok(len)
     }
 }

@@ -2,6 +2,7 @@ ghost use Rattle.std.specs.Prelude.{◌≡◌, Some};
 ghost use Rattle.refusal.specs.Refusals.{refusal_number, refusal_words, fault};
 
 use crate::fault::Fault;
+use std::error::Error;
 use std::fmt;
 
 // Why a call was refused. The number of each case is part of the interface.
@@ -66,3 +67,5 @@ impl fmt::Display for Refusal {
         })
     }
 }
+
+impl Error for Refusal {}

@@ -148,14 +148,14 @@ impl Roll for Tape {
     }
 
     fn read(&mut self, entry: u32, out: &mut [u8]) -> Result<usize, Fault> {
-        let mut guard = Wipe { out, kept: false };
+        let guard = Wipe { out };
         let place = self.place(entry)?;
         let len = place.len();
         if guard.out.len() < len {
             return Err(Refusal::OutTooShort.at(FLOOR, entry));
         }
         guard.out[0..len].copy_from_slice(&self.memory[place]);
-        guard.kept = true;
+        guard.keep();
         Ok(len)
     }
 }

@@ -2,7 +2,7 @@
 use Rattle.std.proofs.Common.{◌≡◌, ℕ, ◌+◌, ◌-◌, ◌<◌, ◌≤◌, Bool, true, false, cond, ◌&&◌, eqb, ltb, leb, List, [], ◌∷◌, ◌++◌, length, take, drop, Some, None, Ok, Err, Option, Result, sym, refl, ap, ◌∙◌, ap₂, append-nil, arith, length-drop, take-append-drop}
 use Rattle.std.specs.Prelude.{if◌then◌else◌, MatchResult}
 use Rattle.std.proofs.lemmas.Bool.Decides.{nat_tests}
-use Rattle.std.proofs.lemmas.Bool.{le-leb, ltb-false, eqb-true, cond-true}
+use Rattle.std.proofs.lemmas.Bool.{le-leb, ltb-false, eqb-true, le-ltb, cond-true, cond-false}
 use Rattle.std.proofs.ByRecursion.{All-take, All-drop}
 use Rattle.std.proofs.lemmas.List.{take_at, drop_at, take_all, drop-drop, length-take-le}
 use Rattle.refusal.specs.declared.fault.Fault.{Fault}
@@ -89,6 +89,11 @@ nonce_taken n ws small e =
     let last : take 4 (drop 8 n) ++ [] ≡ drop 8 n = append-nil (take 4 (drop 8 n)) ∙ take_all 4 (drop 8 n) (rw length-drop (omega arith)) in
     let middle : take 4 (drop 4 n) ++ drop 8 n ≡ drop 4 n = ap (λ x. take 4 (drop 4 n) ++ x) (sym (drop-drop 4 4 n)) ∙ take-append-drop 4 (drop 4 n) in
     (p.0, ap word_bytes (sym p.1) ∙ ap₂ ◌++◌ (part 0 (omega arith)) (ap₂ ◌++◌ (part 4 (omega arith)) (ap (λ x. x ++ []) (part 8 (omega arith)) ∙ last) ∙ middle) ∙ take-append-drop 4 n)
+
+-- the checks pass
+pub open_check-none : (n ad c room : ℕ) → eqb n 12 ≡ true → ad ≤ longest → c - 8 ≤ longest → 8 ≤ c → c - 8 ≤ room → open_check n ad c room ≡ None
+open_check-none n ad c room e f g h l =
+    cond-true _ _ _ e ∙ cond-false _ _ _ (le-ltb longest ad f) ∙ cond-false _ _ _ (le-ltb longest (c - 8) g) ∙ cond-false _ _ _ (le-ltb c 8 h) ∙ cond-false _ _ _ (le-ltb room (c - 8) l)
 
 -- what an opening owes, once the checks have passed and it is known what there is to open
 pub record Opened (key n ad c out : List ℕ) (check : Option Refusal) (r : Result ℕ Fault) (after : List ℕ) : Type 0 where

@@ -4,20 +4,28 @@ mod agreement;
 mod case;
 mod fault;
 mod judge;
-mod key_size;
 mod tally;
 
 use crate::fault::CaseFault;
 use crate::judge::judge_block;
-use crate::key_size::KeySize;
 use crate::tally::Tally;
 use anyhow::ensure;
 use std::fs;
 use std::rt::Files;
+use tinyjambu::KeySize;
+
+// The file of the cases with keys of a size.
+fn file(size: KeySize) -> &'static str {
+    match size {
+        KeySize::Bits128 => "LWC_AEAD_KAT_128_96.txt",
+        KeySize::Bits192 => "LWC_AEAD_KAT_192_96.txt",
+        KeySize::Bits256 => "LWC_AEAD_KAT_256_96.txt",
+    }
+}
 
 // Runs the cases of one file, names each that does not agree, and prints how many do.
 fn run_file(rt: &(impl Files + Print + AllocGlobal), size: KeySize) -> anyhow::Result<Tally> {
-    let text = fs::read_to_string(rt, size.file())?;
+    let text = fs::read_to_string(rt, file(size))?;
     let mut tally = Tally::new();
     for block in text.split("\n\n").filter(|block| !block.trim().is_empty()) {
         let verdict = judge_block(rt.alloc(), size, block);
@@ -31,7 +39,7 @@ fn run_file(rt: &(impl Files + Print + AllocGlobal), size: KeySize) -> anyhow::R
             },
         }
     }
-    let bits = size.bits();
+    let bits = 8 * size.bytes();
     println!(rt; "TinyJAMBU-{bits}: {tally}")?;
     Ok(tally)
 }

@@ -55,7 +55,7 @@ returns c =
     let done = read_given (pocket p.name p.bytes p.lengths.items) i c.args.out.now _ e (omega (arith, n)) in
     record {
       answer = ap Ok (long ∙ sym n) ∙ sym done.0;
-      out = c.drop-guard-2.ensures ∙ copy ∙ sym done.1;
+      out = c.keep.ensures ∙ copy ∙ sym done.1;
       same = refl;
       stored = refl;
       floors = refl;

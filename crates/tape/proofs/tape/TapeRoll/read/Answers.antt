@@ -57,7 +57,7 @@ returns c =
     let done = read_given (tape memory) c.args.entry c.args.out.now _ at.stands (omega (arith, c.if-guard-len.false, n)) in
     record {
       answer = ap Ok (omega (arith, n)) ∙ sym done.0;
-      out = c.drop-guard-2.ensures ∙ copy ∙ sym done.1;
+      out = c.keep.ensures ∙ copy ∙ sym done.1;
       same = refl;
       stored = refl;
       floors = refl;
