@@ -1,2 +1,3 @@
 pub mod Pocket
 pub mod PocketLaws
+pub mod Held

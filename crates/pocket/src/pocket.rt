@@ -1,8 +1,7 @@
 ghost use Rattle.std.specs.Prelude.{◌≡◌, ◌+◌, ◌<◌, ◌≤◌, [], length, take, replicate, refl, slice_index, OnOk, IfOk, OnErr, IfErr};
 ghost use Rattle.refusal.specs.Refusals.{fault};
 ghost use Rattle.refusal.specs.declared.refusal.Refusal.TheVariants.{NoEntry};
-ghost use Rattle.pocket.specs.Pocket.{paged, paged_all, pocket, pocket_put, pocket_writes};
-ghost use Rattle.pocket.specs.PocketLaws.{pocket_lawful, pocket_puts};
+ghost use Rattle.pocket.specs.Pocket.{paged, paged_all, pocket, pocket_writes};
 
 use arrayvec::ArrayVec;
 use roll::Roll;
@@ -41,10 +40,12 @@ fn paged_all(lengths: &[u32]) -> usize
 }
 
 impl Pocket {
+    ghost use Rattle.pocket.specs.Held.{roll_of, pages_of};
+
     // An empty pocket under a name.
     pub fn new(name: u32) -> Pocket
-        ensures empty { ⟦<Pocket as Roll>⟧.meaning result ≡ pocket name (replicate 4096 0) [] }
-        ensures blank { ⟦<Pocket as Roll>⟧.image result ≡ replicate 4096 0 }
+        ensures empty { roll_of result ≡ pocket name (replicate 4096 0) [] }
+        ensures blank { pages_of result ≡ replicate 4096 0 }
     {
         Pocket {
             name,
@@ -70,25 +71,27 @@ impl Pocket {
 }
 
 impl Roll for Pocket {
-    ghost meaning = { λ s. pocket s.name s.bytes s.lengths.items };
+    ghost use Rattle.pocket.specs.Held.{roll_of, pages_of, pages_with, roll_lawful, pages_put};
 
-    ghost bottom = { λ s. pocket s.name s.bytes s.lengths.items };
+    ghost meaning = { roll_of };
+
+    ghost bottom = { roll_of };
 
     ghost layers = { λ s. [] };
 
-    ghost image = { λ s. s.bytes };
+    ghost image = { pages_of };
 
-    ghost put = { λ s t. pocket_put s.bytes s.lengths.items t };
+    ghost put = { pages_with };
 
     ghost writes = { pocket_writes };
 
     ghost stands = { λ s. refl };
 
-    ghost lawful = { λ s. pocket_lawful s.name s.bytes s.lengths.items s.whole s.fits };
+    ghost lawful = { roll_lawful };
 
-    ghost lawful_top = { λ s. pocket_lawful s.name s.bytes s.lengths.items s.whole s.fits };
+    ghost lawful_top = { roll_lawful };
 
-    ghost puts = { λ s t. pocket_puts s.name s.bytes s.lengths.items t s.fits };
+    ghost puts = { pages_put };
 
     fn name(&self) -> u32 {
         self.name
