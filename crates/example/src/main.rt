@@ -29,7 +29,7 @@ fn keep(
     text: &[u8],
     out: &mut [u8],
 ) -> (Vec<u8>, Result<usize, Fault>)
-    ensures bytes { result.0.items ≡ image_by tape_put (layer (key_bytes studio) 1 ∷ layer (key_bytes distributor) 1 ∷ []) (tape memory.items) memory.items (Some text.now) }
+    ensures bytes { result.0.items ≡ image_by tape_put (layer (key_bytes studio) Kind.Scene ∷ layer (key_bytes distributor) Kind.Scene ∷ []) (tape memory.items) memory.items (Some text.now) }
 {
     let lower = Floor::lay(
         Tape::open(memory),

@@ -29,7 +29,7 @@ impl<R: Roll, E: Engine> Floor<R, E> {
     // The number that a text will have as an entry, or why it is refused at this floor.
     fn admit(&self, floor: u32, text: &[u8]) -> Result<u32, Fault>
         requires { floor ≡ above (R.Roll.meaning self.now.below) }
-        ensures { result ≡ append_answer (raised (layer (E.key self.now.engine) (kind_byte self.now.kind)) (R.Roll.meaning self.now.below)) text.now }
+        ensures { result ≡ append_answer (raised (layer (E.key self.now.engine) self.now.kind) (R.Roll.meaning self.now.below)) text.now }
     {
         let entry = self.count();
         let len = text.len();
@@ -62,23 +62,23 @@ impl<R: Roll, E: Engine> Floor<R, E> {
 }
 
 impl<R: Roll, E: Engine> Roll for Floor<R, E> {
-    ghost meaning = { λ s. raised (layer (E.key s.engine) (kind_byte s.kind)) (R.Roll.meaning s.below) };
+    ghost meaning = { λ s. raised (layer (E.key s.engine) s.kind) (R.Roll.meaning s.below) };
 
     ghost bottom = { λ s. R.Roll.bottom s.below };
 
-    ghost layers = { λ s. layer (E.key s.engine) (kind_byte s.kind) ∷ R.Roll.layers s.below };
+    ghost layers = { λ s. layer (E.key s.engine) s.kind ∷ R.Roll.layers s.below };
 
     ghost image = { λ s. R.Roll.image s.below };
 
-    ghost put = { λ s t. R.Roll.writes (R.Roll.bottom s.below) (R.Roll.image s.below) (sealed (layer (E.key s.engine) (kind_byte s.kind) ∷ R.Roll.layers s.below) (R.Roll.bottom s.below) (count (R.Roll.bottom s.below)) t) };
+    ghost put = { λ s t. R.Roll.writes (R.Roll.bottom s.below) (R.Roll.image s.below) (sealed (layer (E.key s.engine) s.kind ∷ R.Roll.layers s.below) (R.Roll.bottom s.below) (count (R.Roll.bottom s.below)) t) };
 
     ghost writes = { R.Roll.writes };
 
-    ghost stands = { λ s. ap (raised (layer (E.key s.engine) (kind_byte s.kind))) (R.Roll.stands s.below) };
+    ghost stands = { λ s. ap (raised (layer (E.key s.engine) s.kind)) (R.Roll.stands s.below) };
 
     ghost lawful = { λ s. R.Roll.lawful s.below };
 
-    ghost lawful_top = { λ s. raised_lawful (layer (E.key s.engine) (kind_byte s.kind)) (R.Roll.meaning s.below) (R.Roll.lawful_top s.below) };
+    ghost lawful_top = { λ s. raised_lawful (layer (E.key s.engine) s.kind) (R.Roll.meaning s.below) (R.Roll.lawful_top s.below) };
 
     ghost puts = { λ s t. refl };
 
@@ -149,7 +149,7 @@ impl<R: Roll, E: Engine> Lay<R, E> for Floor<R, E> {
 
     ghost works = { λ s. s.engine };
 
-    ghost sort = { λ s. kind_byte s.kind };
+    ghost sort = { λ s. s.kind };
 
     fn lay(below: R, engine: E, kind: Kind) -> Floor<R, E> {
         Floor {

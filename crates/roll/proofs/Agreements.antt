@@ -1,6 +1,7 @@
 -- Two rolls compared entry by entry.
-use Rattle.std.proofs.Common.{◌≡◌, ℕ, zero, suc, ◌<◌, ◌≤◌, Bool, List, [], ◌∷◌, length, drop, Some, None, Decides, Option, sym, refl, subst₂, ⊎_elim, arith}
+use Rattle.std.proofs.Common.{◌≡◌, ℕ, zero, suc, ◌<◌, ◌≤◌, Bool, List, [], ◌∷◌, length, drop, Some, None, Decides, Option, sym, refl, ap, subst₂, ⊎_elim, arith}
 use Rattle.std.proofs.lemmas.Bool.{cases_lt}
+use Rattle.std.proofs.lemmas.List.{drop_all}
 use Rattle.roll.specs.Roll.{Meaning, Entry, text, broken, count, entry, first}
 use Rattle.roll.specs.Agree.{AlikeThere, Agree}
 use Rattle.roll.proofs.Reading.{BrokenThere}
@@ -19,10 +20,7 @@ broken_alike (Some (broken f n)) (Some (broken g k)) p q = tt
 
 -- behind the end there is nothing
 past_end : (es : List Entry) (i : ℕ) → length es ≤ i → first (drop i es) ≡ None
-past_end [] zero h = refl
-past_end [] (suc i) h = refl
-past_end (e ∷ es) zero h = absurd (omega arith)
-past_end (e ∷ es) (suc i) h = past_end es i (omega arith)
+past_end es i h = ap first (drop_all i es h)
 
 -- rolls with as many entries that are alike below the end agree
 pub all_alike : (m n : Meaning) → count m ≡ count n → ((i : ℕ) → i < count m → AlikeThere (entry m i) (entry n i)) → Agree m n

@@ -1,5 +1,5 @@
 -- One roll by itself: what an append does to it, what a read of it gives, and its life under a list of calls.
-use Rattle.std.proofs.Common.{◌≡◌, ℕ, zero, suc, ◌+◌, ◌<◌, ◌≤◌, false, cond, ltb, leb, ◌⊎◌, List, [], ◌∷◌, ◌++◌, length, take, drop, replicate, is_ok, Some, None, Ok, Err, Option, Result, sym, refl, ap, ◌∙◌, subst, subst₂, inl, inr, ⊎_elim, arith}
+use Rattle.std.proofs.Common.{◌≡◌, ℕ, zero, suc, ◌+◌, ◌<◌, ◌≤◌, false, if◌then◌else◌, ltb, leb, ◌⊎◌, List, [], ◌∷◌, ◌++◌, length, take, drop, replicate, is_ok, Some, None, Ok, Err, Option, Result, sym, refl, ap, ◌∙◌, subst, subst₂, inl, inr, ⊎_elim, arith}
 use lib.ListN.{length-replicate}
 use Rattle.std.proofs.lemmas.Bool.{cases_Bool, cases_lt, both_ways, leb-false, ltb-false, le-leb, lt-leb, lt-ltb, le-ltb, cond-true, cond-false}
 use Rattle.std.proofs.lemmas.List.{take_at, drop_at, length_push}
@@ -180,7 +180,7 @@ ran m (c ∷ cs) l =
 abbrev pub said : Meaning → ℕ → ℕ → Option Entry → Result ℕ Fault
 said m i room o = elim o [
   | None ↦ Err (fault NoEntry m.floor i)
-  | Some e ↦ cond (ltb room (entry_length e)) (Err (fault OutTooShort m.floor i)) (read_entry m i e)
+  | Some e ↦ if ltb room (entry_length e) then Err (fault OutTooShort m.floor i) else read_entry m i e
 ]
 
 -- the out buffer by the entry and the answer

@@ -1,10 +1,10 @@
 -- What a sealing floor makes of the roll below it, and a pile of floors of its bottom.
-use Rattle.std.specs.Prelude.{ℕ, ◌+◌, ◌-◌, min, cond, List, [], ◌∷◌, ◌++◌, length, Some, None, Option, nat_lt}
+use Rattle.std.specs.Prelude.{ℕ, ◌+◌, ◌-◌, min, if◌then◌else◌, List, [], ◌∷◌, ◌++◌, length, Some, None, Option, nat_lt}
 use Rattle.tinyjambu.specs.Mode.{seal, opened}
 use Rattle.engine.specs.Bytes.{bytes}
 use Rattle.roll.specs.Roll.{Meaning, Entry, text, broken}
 
--- a floor: the key of its engine, and the byte of its kind
+-- a floor: the key of its engine, and the byte of its kind (any byte, so that the laws hold for more than the kinds that there are)
 pub record Layer : Type 0 where
   pub key : List ℕ
   pub kind : ℕ
@@ -53,7 +53,7 @@ raised l below = record {
   floor = above below;
   bound = below.bound - 8;
   space = below.space;
-  charge = λ n. cond (nat_lt n (below.bound - 8)) (below.charge (n + 8)) 0;
+  charge = λ n. if nat_lt n (below.bound - 8) then below.charge (n + 8) else 0;
   entries = raised_from l below 0 below.entries;
 }
 

@@ -1,5 +1,5 @@
 -- The laws of a roll carry up to the floor that is laid on it. (Proofs, for a floor to give as ghost members.)
-use Rattle.std.specs.Prelude.{◌≡◌, ℕ, suc, ◌+◌, ◌-◌, ◌<◌, Bool, true, false, cond, List, [], ◌∷◌, length, take, Some, None, refl}
+use Rattle.std.specs.Prelude.{◌≡◌, ℕ, suc, ◌+◌, ◌-◌, ◌<◌, Bool, true, false, if◌then◌else◌, List, [], ◌∷◌, length, take, Some, None, refl}
 use Rattle.std.proofs.Common.{◌∙◌, ap, arith, length-take}
 use Rattle.std.proofs.lemmas.Bool.{lt-ltb, le-ltb, cond-true, cond-false}
 use Rattle.tinyjambu.specs.Mode.{blocks, plaintext, plain_block, mark, inject, text_run, opened}
@@ -21,7 +21,7 @@ body_length : (key : List ℕ) (s : ℕ) (c : List ℕ) → length (plaintext ke
 body_length key s c = plain_length key s (take (length c - 8) c) ∙ (length-take (length c - 8) c ∙ omega arith)
 
 -- a broken entry is counted as long as a text would be
-either_length : (b : Bool) (f n : ℕ) (t : List ℕ) → length t ≡ n → entry_length (opened_entry f n (cond b (Some t) None)) ≡ n
+either_length : (b : Bool) (f n : ℕ) (t : List ℕ) → length t ≡ n → entry_length (opened_entry f n (if b then Some t else None)) ≡ n
 either_length true f n t h = h
 either_length false f n t h = refl
 

@@ -1,5 +1,5 @@
 -- What a roll means, and what each call on one answers and leaves.
-use Rattle.std.specs.Prelude.{◌≡◌, ℕ, ◌+◌, ◌-◌, ◌*◌, ◌<◌, ◌≤◌, cond, List, [], ◌∷◌, ◌++◌, length, drop, replicate, Some, None, Ok, Err, Option, Result, nat_le, nat_lt}
+use Rattle.std.specs.Prelude.{◌≡◌, ℕ, ◌+◌, ◌-◌, ◌*◌, ◌<◌, ◌≤◌, if◌then◌else◌, List, [], ◌∷◌, ◌++◌, length, drop, replicate, Some, None, Ok, Err, Option, Result, nat_le, nat_lt}
 use Rattle.refusal.specs.declared.fault.Fault.{Fault}
 use Rattle.refusal.specs.Refusals.{fault}
 use Rattle.refusal.specs.declared.refusal.Refusal.TheVariants.{NoEntry, EntryTooLong, RollFull, NoSpace, OutTooShort, Broken}
@@ -61,10 +61,10 @@ pub record Lawful (m : Meaning) : Type 0 where
 -- the answer to an append of a text: the number of the new entry, or the first of three refusals that applies
 abbrev pub append_answer : Meaning → List ℕ → Result ℕ Fault
 append_answer m t =
-    cond (nat_le m.bound (length t)) (Err (fault EntryTooLong m.floor (count m)))
-    (cond (nat_le 4095 (count m)) (Err (fault RollFull m.floor (count m)))
-    (cond (nat_lt m.space (m.charge (length t))) (Err (fault NoSpace m.floor (count m)))
-    (Ok (count m))))
+    if nat_le m.bound (length t) then Err (fault EntryTooLong m.floor (count m)) else
+    if nat_le 4095 (count m) then Err (fault RollFull m.floor (count m)) else
+    if nat_lt m.space (m.charge (length t)) then Err (fault NoSpace m.floor (count m)) else
+    Ok (count m)
 
 -- the roll with one text more
 abbrev pub grown : Meaning → List ℕ → Meaning
@@ -103,7 +103,7 @@ read_entry m i (broken f n) = Err (fault Broken f i)
 abbrev pub read_answer : Meaning → ℕ → ℕ → Result ℕ Fault
 read_answer m i room = elim (entry m i) [
   | None ↦ Err (fault NoEntry m.floor i)
-  | Some e ↦ cond (nat_lt room (entry_length e)) (Err (fault OutTooShort m.floor i)) (read_entry m i e)
+  | Some e ↦ if nat_lt room (entry_length e) then Err (fault OutTooShort m.floor i) else read_entry m i e
 ]
 
 -- the text of an entry, which a broken one has not

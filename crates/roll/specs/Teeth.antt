@@ -1,5 +1,5 @@
 -- That the law of a life speaks of something, and that it fails of what is wrong.
-use Rattle.std.specs.Prelude.{◌≡◌, ℕ, ◌+◌, ◌<◌, ◌≤◌, cond, List, [], ◌∷◌, ◌++◌, length, Some, Err, nat_lt}
+use Rattle.std.specs.Prelude.{◌≡◌, ℕ, ◌+◌, ◌<◌, ◌≤◌, if◌then◌else◌, List, [], ◌∷◌, ◌++◌, length, Some, Err, nat_lt}
 use Rattle.refusal.specs.declared.fault.Fault.{Fault}
 use Rattle.roll.specs.declared.answer.Answer.{Answer}
 use Rattle.roll.specs.declared.answer.Answer.TheVariants.{Appended}
@@ -9,7 +9,7 @@ use Rattle.roll.specs.Life.{Call, append, Kept, answers, accepted, Life}
 
 -- a bottom with no entries and 1,000 bytes of space
 abbrev pub blank : Meaning
-blank = record { name = 7; floor = 0; bound = 4097; space = 1000; charge = λ n. cond (nat_lt n 4097) (n + 4) 0; entries = [] }
+blank = record { name = 7; floor = 0; bound = 4097; space = 1000; charge = λ n. if nat_lt n 4097 then n + 4 else 0; entries = [] }
 
 -- two appends, of 2 bytes and of none
 abbrev pub two_appends : List Call

@@ -53,7 +53,8 @@ fn one<R: Roll>(roll: &mut R, call: &Call<'_>, texts: &mut Vec<u8>) -> Answer
 }
 
 // Works each call in turn: `answers` are then theirs, and `texts` what they read, one text after another. It reserves the
-// memory for both first, so that want of memory refuses before anything has changed.
+// memory for both first, so that want of memory refuses before anything has changed; the caller lends the two, since where it
+// keeps memory ready nothing refuses.
 pub fn work<R: Roll>(
     roll: &mut R,
     calls: &[Call<'_>],

@@ -1,7 +1,6 @@
 use Rattle.std.proofs.Common.{◌≡◌, ℕ, List, ◌∷◌, take, sym, ap, ◌∙◌, ap₂}
 use Rattle.roll.specs.Roll.{Meaning, count, append_after, image_after}
 use Rattle.roll.specs.Floor.{Layer, nonce, above, seal_at, apply_seal, raised}
-use Rattle.roll.specs.Kinds.{kind_byte}
 use Rattle.roll.specs.Laws.{raised-count}
 use Rattle.floor.specs.Laid.{layer}
 use Rattle.floor.proofs.Floors.{raised-floor, short_enough, was_taken, numbered, seal_written, handed_down, answer_below, after_below, refused, not_refused}
@@ -10,13 +9,13 @@ use Rattle.floor.proofs.floor.FloorRoll.append.Goals as goal
 pub returns-in_err-entry-clause-stored : goal.returns-in_err-entry-clause-stored
 returns-in_err-entry-clause-stored g c =
     let s = c.args.self.now in
-    refused (layer (g.E.Engine.key s.engine) (kind_byte s.kind)) (g.R.Roll.meaning s.below) (g.R.Roll.layers s.below) (g.R.Roll.bottom s.below) c.args.text.now _
+    refused (layer (g.E.Engine.key s.engine) s.kind) (g.R.Roll.meaning s.below) (g.R.Roll.layers s.below) (g.R.Roll.bottom s.below) c.args.text.now _
     (g.R.Roll.stands s.below) (sym c.admit.ensures ∙ c.in_err-entry.was)
 
 pub returns : goal.returns
 returns g c =
     let s = c.args.self.now in
-    let l : Layer = layer (g.E.Engine.key s.engine) (kind_byte s.kind) in
+    let l : Layer = layer (g.E.Engine.key s.engine) s.kind in
     let m : Meaning = g.R.Roll.meaning s.below in
     let b : Meaning = g.R.Roll.bottom s.below in
     let image : List ℕ = g.R.Roll.image s.below in
@@ -36,9 +35,9 @@ returns g c =
     let answer = e.answer ∙ answer_below l m (g.R.Roll.layers s.below) b t stored p q h in
     record {
       answer = answer;
-      after = ap₂ (λ x y. raised (layer x l.kind) y) c.seal.ensures.same e.after ∙ after_below l m (g.R.Roll.layers s.below) b t stored p q;
+      after = ap₂ (λ x y. raised (layer x s.kind) y) c.seal.ensures.same e.after ∙ after_below l m (g.R.Roll.layers s.below) b t stored p q;
       stored = e.stored ∙ ap (append_after b) down;
-      floors = ap₂ (λ x ls. layer x l.kind ∷ ls) c.seal.ensures.same e.floors;
+      floors = ap₂ (λ x ls. layer x s.kind ∷ ls) c.seal.ensures.same e.floors;
       bytes =
           e.bytes ∙ ap (λ n. image_after c.append.result n image) (g.R.Roll.puts s.below stored)
           ∙ ap (λ x. image_after c.append.result (g.R.Roll.writes b image x) image) down;

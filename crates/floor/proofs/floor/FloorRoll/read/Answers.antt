@@ -4,7 +4,6 @@ use Rattle.refusal.specs.declared.refusal.Refusal.TheVariants.{Broken}
 use Rattle.refusal.specs.Refusals.{fault}
 use Rattle.roll.specs.Roll.{Meaning}
 use Rattle.roll.specs.Floor.{Layer, nonce, above}
-use Rattle.roll.specs.Kinds.{kind_byte}
 use Rattle.floor.specs.Laid.{layer}
 use Rattle.floor.proofs.Floors.{raised-floor, reads_broken, read_shut, read_opened}
 use Rattle.floor.proofs.floor.FloorRoll.read.Goals as goal
@@ -13,7 +12,7 @@ use Rattle.floor.proofs.floor.FloorRoll.read.Goals as goal
 pub returns-in_err-n : goal.returns-in_err-n
 returns-in_err-n g c =
     let s = c.args.self.now in
-    let l : Layer = layer (g.E.Engine.key s.engine) (kind_byte s.kind) in
+    let l : Layer = layer (g.E.Engine.key s.engine) s.kind in
     let m : Meaning = g.R.Roll.meaning s.below in
     let passed = err_from_is_err_and c.from_residual-in_err-n.result c.from_residual-in_err-n.ensures.1 in
     let done =
@@ -32,7 +31,7 @@ returns-in_err-n g c =
 pub returns-in_err-map_err : goal.returns-in_err-map_err
 returns-in_err-map_err g c =
     let s = c.args.self.now in
-    let l : Layer = layer (g.E.Engine.key s.engine) (kind_byte s.kind) in
+    let l : Layer = layer (g.E.Engine.key s.engine) s.kind in
     let m : Meaning = g.R.Roll.meaning s.below in
     let here : c.floor-floor.result ≡ above m = c.floor-floor.ensures ∙ raised-floor l m in
     let shut : is_ok c.open.result ≡ false = search rules in
@@ -55,7 +54,7 @@ returns-in_err-map_err g c =
 pub returns : goal.returns
 returns g c =
     let s = c.args.self.now in
-    let l : Layer = layer (g.E.Engine.key s.engine) (kind_byte s.kind) in
+    let l : Layer = layer (g.E.Engine.key s.engine) s.kind in
     let m : Meaning = g.R.Roll.meaning s.below in
     let here : c.floor-floor.result ≡ above m = c.floor-floor.ensures ∙ raised-floor l m in
     let opened : is_ok c.open.result ≡ true = search rules in
