@@ -2,6 +2,7 @@
 
 mod blanking;
 mod checking;
+mod copying;
 mod extent;
 mod judging;
 mod lines;

@@ -3,6 +3,7 @@ ghost use Rattle.engine.specs.Bytes.{bytes};
 ghost use Rattle.roll.specs.Memory.{written};
 ghost use Rattle.tape.specs.Tape.{entry_put};
 
+use crate::copying::copy_entry;
 use crate::extent::Extent;
 use byteorder::{ByteOrder, LittleEndian};
 
@@ -11,7 +12,7 @@ pub(crate) fn write_word(memory: &mut [u8], at: usize, number: u32)
     requires { at + 4 ≤ length memory.old }
     ensures { memory.new ≡ written at (bytes 4 number) memory.old }
 {
-    LittleEndian::write_u32(&mut memory[at..], number);
+    LittleEndian::write_u32(&mut memory[at..at + 4], number);
 }
 
 // Writes an entry behind the last one, then where it ends, then how many entries there are. Answers the extent then.
@@ -26,7 +27,7 @@ pub(crate) fn write_entry(memory: &mut [u8], extent: Extent, text: &[u8]) -> Ext
     let begin = extent.end;
     let end = begin + text.len();
     let at = memory.len() - 4 * count as usize;
-    memory[begin..end].copy_from_slice(text);
+    copy_entry(&mut memory[begin..end], text);
     write_word(memory, at, end as u32);
     write_word(memory, 4, count);
     Extent { count, end }

@@ -1,11 +1,8 @@
-use Rattle.std.proofs.Common.{◌≡◌, ℕ, List, ◌++◌, get_or, take, refl, ◌∙◌, append-nil}
+use Rattle.std.proofs.Common.{◌≡◌, ℕ, List, ◌++◌, get_or, take, ◌∙◌}
 use Rattle.tinyjambu.specs.History.{TookData}
 use Rattle.tinyjambu.specs.Message.{message}
 use Rattle.tinyjambu.proofs.Messages.{nothing, data_piece, message_all}
 use Rattle.tinyjambu.proofs.pieces.absorb_pieces.Goals as goal
-
-pub loop-piece-init : goal.loop-piece-init
-loop-piece-init g c = (λ nonce ad h. rw append-nil h, refl)
 
 pub loop-piece-preserved : goal.loop-piece-preserved
 loop-piece-preserved g c =

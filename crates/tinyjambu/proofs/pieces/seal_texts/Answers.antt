@@ -1,4 +1,4 @@
-use Rattle.std.proofs.Common.{◌≡◌, ℕ, ◌+◌, ◌≤◌, List, ◌++◌, length, get_or, take, sym, refl, ap, ◌∙◌, arith, length-append}
+use Rattle.std.proofs.Common.{◌≡◌, ℕ, ◌+◌, ◌≤◌, List, ◌++◌, length, get_or, take, sym, ap, ◌∙◌, arith, length-append}
 use Rattle.std.proofs.lemmas.List.{take_all}
 use Rattle.tinyjambu.specs.History.{TookText, sealed_piece}
 use Rattle.tinyjambu.specs.Message.{message}
@@ -13,9 +13,6 @@ overflow_add-end g c =
 pub slice_bounds-crypt-end-in-loop-piece : goal.slice_bounds-crypt-end-in-loop-piece
 slice_bounds-crypt-end-in-loop-piece g c =
     end_within c.args.pieces.now c.loop-piece.piece-index c.loop-piece.at (length c.loop-piece.out) c.loop-piece-test.true c.loop-piece.invariant.0 (c.loop-piece.auto.out ∙ c.requires)
-
-pub loop-piece-init : goal.loop-piece-init
-loop-piece-init g c = (refl, λ nonce ad h. (h, refl), refl)
 
 pub loop-piece-preserved : goal.loop-piece-preserved
 loop-piece-preserved g c =

@@ -20,6 +20,3 @@ loop-i-preserved c =
       rest_more ws i w c.loop-i.invariant.1,
       rw is (filled_more ws bs i (all_bytes bs c.type_inv.bytes) (omega arith) (omega arith) c.loop-i.invariant.2),
     )
-
-pub invariant_of-result : goal.invariant_of-result
-invariant_of-result c = record { stored = c.loop-i.invariant.0 }

@@ -4,9 +4,8 @@ use native.Mathlib.Nat.{zero-mod}
 use Rattle.engine.specs.Permutation.{rounds}
 use Rattle.engine.specs.Bytes.{joined, AllWords}
 use Rattle.engine.specs.Turns.{flip}
-use Rattle.engine.specs.Keys.{size_words}
 use Rattle.engine.proofs.Joined.{joined_words, words_small, four}
-use Rattle.engine.proofs.Keys.{key_of-flipped, in_use-some}
+use Rattle.engine.proofs.Keys.{in_use-some}
 use Rattle.engine.proofs.Turns.{turn_flipped}
 use Rattle.engine.proofs.word_engine.WordEngine.run.Goals as goal
 
@@ -28,10 +27,3 @@ loop-n-preserved c =
     let e = turn_flipped c.in_use-words.result.now d c.mix-d.ensures c.mix-d.type_inv c.next-at-in-loop-n-3.ensures.is c.next-at-in-loop-n-3.ensures.below in
     let q : c.loop-n.n * 4 + 1 + 1 + 1 + 1 ≡ (c.loop-n.n + 1) * 4 = omega arith in
     rw q at e
-
-pub returns : goal.returns
-returns c =
-    let n : 128 * c.args.steps ≡ c.loop-n.n * 4 * 32 = omega arith in
-    let own = c.args.self.now.complement in
-    let e = key_of-flipped own.words c.in_use-words.result.now (size_words own.size) c.in_use-words.ensures in
-    c.as_number.ensures ∙ sym (rw (n, ← e) c.loop-n.invariant.state)

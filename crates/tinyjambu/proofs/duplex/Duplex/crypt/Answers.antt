@@ -1,17 +1,12 @@
-use Rattle.std.proofs.Common.{◌+◌, ◌*◌, ◌^◌, ◌≤◌, length, get_or, sym, refl, ap, ◌∙◌, ap₂, arith}
+use Rattle.std.proofs.Common.{◌+◌, ◌*◌, ◌^◌, ◌≤◌, length, get_or, sym, ap, ◌∙◌, ap₂, arith}
 use lib.Bits.{bit_xor}
 use Rattle.engine.specs.Bytes.{joined}
 use Rattle.tinyjambu.specs.Mode.{text_run, stream}
 use Rattle.tinyjambu.specs.Duplex.{fed_byte, sealed_byte, text_of, sealed_of}
 use Rattle.tinyjambu.proofs.Histories.{took_more, sealed_part}
 use Rattle.engine.proofs.Joined.{all_bytes}
-use Rattle.tinyjambu.proofs.Steps.{either_small, crypted_none, crypted_all, crypted_byte_more, crypted_word_more}
+use Rattle.tinyjambu.proofs.Steps.{either_small, crypted_all, crypted_byte_more, crypted_word_more}
 use Rattle.tinyjambu.proofs.duplex.Duplex.crypt.Goals as goal
-
-pub loop-at-init : goal.loop-at-init
-loop-at-init g c =
-    let d = c.args.self.now in
-    (crypted_none (text_run (g.E.Engine.key c.args.engine.now)) d.filled (joined d.state) c.args.direction c.args.input.now c.args.out.now d.few c.requires, refl)
 
 pub loop-at-preserved-then-input-at-ge4 : goal.loop-at-preserved-then-input-at-ge4
 loop-at-preserved-then-input-at-ge4 g c =
