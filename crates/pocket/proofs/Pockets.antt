@@ -1,5 +1,5 @@
 -- The entries of a pocket, by where they begin, and one more.
-use Rattle.std.proofs.Common.{◌≡◌, ℕ, zero, suc, ◌+◌, ◌-◌, ◌<◌, ◌≤◌, List, [], ◌∷◌, ◌++◌, length, get_or, take, drop, Some, None, Err, sym, refl, ap, ◌∙◌, ap₂, arith}
+use Rattle.std.proofs.Common.{◌≡◌, ℕ, zero, suc, ◌+◌, ◌-◌, ◌<◌, ◌≤◌, List, [], ◌∷◌, ◌++◌, length, get_or, take, drop, drop_of_length-le, Some, None, Err, sym, refl, ap, ◌∙◌, ap₂, arith}
 use Rattle.std.proofs.lemmas.List.{take_at, length-take-le}
 use Rattle.std.proofs.lemmas.List.Sums.{sum_by-cons, sum_by_push, sum_by_more_le}
 use Rattle.refusal.specs.declared.refusal.Refusal.TheVariants.{NoSpace}
@@ -19,13 +19,6 @@ entry_from bytes (n ∷ ns) at (suc i) h =
     entry_from bytes ns (at + paged n) i (omega arith)
     ∙ ap (λ k. Some (text (part k (get_or ns i 0) bytes))) (omega (arith, sum_by-cons paged n (take i ns)))
 
--- behind the last entry there is none
-entry_past : (bytes ns : List ℕ) (at i : ℕ) → length ns ≤ i → first (drop i (entries_at bytes at ns)) ≡ None
-entry_past bytes [] at zero h = refl
-entry_past bytes [] at (suc i) h = refl
-entry_past bytes (n ∷ ns) at zero h = absurd (omega arith)
-entry_past bytes (n ∷ ns) at (suc i) h = entry_past bytes ns (at + paged n) i (omega arith)
-
 -- the same of a pocket
 module _ (name : ℕ) (bytes ns : List ℕ) where
   -- there is an entry of each number below the count
@@ -34,7 +27,7 @@ module _ (name : ℕ) (bytes ns : List ℕ) where
 
   -- and of no other
   pub pocket_no_entry : (i : ℕ) → length ns ≤ i → entry (pocket name bytes ns) i ≡ None
-  pocket_no_entry i l = entry_past bytes ns 0 i l
+  pocket_no_entry i l = ap first (drop_of_length-le (entries_at bytes 0 ns) (omega (arith, entries-count bytes 0 ns)))
 
   -- an entry ends within the bytes
   pub stored_within : (i : ℕ) → i < length ns → paged_all ns ≤ length bytes → paged_all (take i ns) + get_or ns i 0 ≤ length bytes

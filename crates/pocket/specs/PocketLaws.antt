@@ -26,10 +26,14 @@ pub paged_many : (ns : List ℕ) → 64 * length ns ≤ paged_all ns
 paged_many [] = omega arith
 paged_many (n ∷ ns) = omega (arith, paged_many ns, sum_by-cons paged n ns)
 
+-- so entries that fit are few
+pub few_fit : (ns : List ℕ) → paged_all ns ≤ 4096 → length ns ≤ 64
+few_fit ns h = omega (arith, paged_many ns)
+
 -- a pocket is lawful
-pub pocket_lawful : (name : ℕ) (bytes ns : List ℕ) → length bytes ≡ 4096 → paged_all ns ≤ 4096 → Lawful (pocket name bytes ns)
-pocket_lawful name bytes ns e fits = record {
-  few = omega (arith, entries-count bytes 0 ns, paged_many ns);
+pub pocket_lawful : (name : ℕ) (bytes ns : List ℕ) → length bytes ≡ 4096 → length ns ≤ 64 → Lawful (pocket name bytes ns)
+pocket_lawful name bytes ns e few = record {
+  few = omega (arith, entries-count bytes 0 ns);
   short = entries-short bytes 0 ns e;
   bounded = λ h. omega arith;
   at_least = λ n h. omega (arith, charge_is n h);
