@@ -118,6 +118,7 @@ impl<R: Roll, E: Engine> Roll for Floor<R, E> {
     fn append(&mut self, text: &[u8]) -> Result<u32, Fault> {
         let entry = self.admit(text)?;
         let label = self.label(entry);
+        // A buffer with a length beside it: no heap, and a roll reads into a slice.
         let mut sealed = [0u8; LONGEST];
         let n = label.seal(&mut self.engine, text, &mut sealed).unwrap();
         self.below.append(&sealed[..n])
@@ -132,6 +133,7 @@ impl<R: Roll, E: Engine> Roll for Floor<R, E> {
         if guard.out.len() < len {
             return Err(Refusal::OutTooShort.at(floor, entry));
         }
+        // A buffer with a length beside it: no heap, and a roll reads into a slice.
         let mut sealed = [0u8; LONGEST];
         let n = self.below.read(entry, &mut sealed)?;
         let text = &mut guard.out[0..len];
