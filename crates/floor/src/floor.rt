@@ -119,6 +119,7 @@ impl<R: Roll, E: Engine> Roll for Floor<R, E> {
         let floor = self.floor();
         let entry = self.admit(floor, text)?;
         let label = self.label(floor, entry);
+        // A buffer with a length beside it: no heap, and a roll reads into a slice.
         let mut sealed = [0u8; LONGEST];
         let n = label.seal(&mut self.engine, text, &mut sealed).unwrap();
         self.below.append(&sealed[..n])
@@ -133,6 +134,7 @@ impl<R: Roll, E: Engine> Roll for Floor<R, E> {
         if guard.out.len() < len {
             return Err(Refusal::OutTooShort.at(floor, entry));
         }
+        // A buffer with a length beside it: no heap, and a roll reads into a slice.
         let mut sealed = [0u8; LONGEST];
         let n = self.below.read(entry, &mut sealed)?;
         let text = &mut guard.out[0..len];

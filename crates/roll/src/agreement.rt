@@ -14,6 +14,7 @@ fn alike<R: Roll, S: Roll>(left: &mut R, right: &mut S, number: u32) -> bool
     ensures left { Same R.Roll.meaning R.Roll.bottom R.Roll.layers R.Roll.image left.old left.new }
     ensures right { Same S.Roll.meaning S.Roll.bottom S.Roll.layers S.Roll.image right.old right.new }
 {
+    // Buffers with a length beside them: no heap, and a roll reads into a slice.
     let mut one = [0u8; LONGEST];
     let mut other = [0u8; LONGEST];
     match (left.read(number, &mut one), right.read(number, &mut other)) {
