@@ -4,11 +4,6 @@ use Rattle.std.proofs.ByRecursion.{All-from_get_or}
 use Rattle.std.proofs.lemmas.List.{drop_more}
 use Rattle.engine.specs.Bytes.{number, bytes, joined, words, word_bytes, AllBytes, AllWords}
 
--- as many bytes as were asked for
-pub length-bytes : (k n : ℕ) → length (bytes k n) ≡ k
-length-bytes zero n = refl
-length-bytes (suc k) n = ap suc (length-bytes k (n / 256))
-
 -- byte q of a number
 pub bytes_at : (k n q : ℕ) → q < k → get_or (bytes k n) q 0 ≡ n / 2 ^ (8 * q) % 2 ^ 8
 bytes_at zero n q h = absurd (omega arith)

@@ -1,22 +1,17 @@
 -- The bits of a key that is held in words.
-use Rattle.std.proofs.Common.{◌≡◌, ℕ, zero, suc, ◌+◌, ◌-◌, ◌*◌, ◌/◌, ◌%◌, ◌^◌, ◌<◌, ◌≤◌, true, false, Ok, Err, refl, ◌||◌, eqb, List, [], ◌∷◌, ◌++◌, length, get_or, take, drop, set, replicate, sym, ap, ◌∙◌, ap₂, ⊎_elim, append-nil, mod-lt, zero-add, arith, length-drop, get_or-take, take-add}
+use Rattle.std.proofs.Common.{◌≡◌, ℕ, zero, suc, ◌+◌, ◌-◌, ◌*◌, ◌/◌, ◌%◌, ◌^◌, ◌<◌, ◌≤◌, true, Ok, refl, List, [], ◌∷◌, ◌++◌, length, get_or, take, drop, set, replicate, sym, ap, ◌∙◌, ap₂, append-nil, mod-lt, zero-add, arith, length-drop, get_or-take, take-add}
 use native.Mathlib.Nat.{div-add-mod}
 use lib.Arith.{mod-mul}
-use Rattle.std.proofs.lemmas.Bool.{eqb-true, or_cases}
 use Rattle.std.proofs.ByRecursion.{All-take, All-drop}
-use lib.ListN.{length-map}
-use Rattle.std.proofs.lemmas.List.{get_or_append_left, take_more_set, length-take-le, drop-set-lt, drop-drop, drop-replicate, take_all, take-map}
-use Rattle.engine.specs.Permutation.{bit, key_bit, long_rounds}
+use Rattle.std.proofs.lemmas.List.{get_or_append_left, take_more_set, length-take-le, drop-set-lt, drop-drop, drop-replicate}
+use Rattle.engine.specs.Permutation.{bit, key_bit}
 use Rattle.engine.specs.Bytes.{number, bytes, AllBytes, word_bytes, length-word_bytes}
 use Rattle.std.proofs.lemmas.Bool.Decides.{nat_tests}
 use Rattle.std.specs.Simd.{first_chunks}
-use Rattle.refusal.specs.declared.refusal.Refusal.{Refusal}
-use Rattle.refusal.specs.declared.refusal.Refusal.TheVariants.{KeyLength}
 use Rattle.engine.specs.declared.key_size.KeySize.{KeySize}
 use Rattle.engine.specs.declared.key_size.KeySize.TheVariants.{Bits128, Bits192, Bits256}
 use Rattle.engine.specs.declared.key_words.KeyWords.{KeyWords}
 use Rattle.engine.specs.Keys.{key_of, is_key_size, size_words, size_of}
-use Rattle.engine.specs.Turns.{flip, flipped}
 use Rattle.engine.proofs.Bitwise.{bit-mod, bit-shr}
 use Rattle.engine.proofs.Joined.{bytes_at, bytes-number, word_bytes-append}
 
@@ -45,18 +40,6 @@ key_at ws u q j h o l =
     rw (n, mod-mul (q * 32 + j) {c = 32} o (omega arith), e, f)
     (word_bit (take u ws) (q % u) j (rw m p) l ∙ ap (λ x. bit x j) (get_or-take u ws (q % u) 0 p))
 
--- the rounds of a long run by the words in use
-pub long_by_words : (ws : List ℕ) (u : ℕ) → u ≤ length ws → 768 + 64 * u ≡ long_rounds (key_of ws u)
-long_by_words ws u h = omega (arith, length-word_bytes (take u ws), length-take-le u ws h)
-
--- the three lengths of a key
-pub key_size_true : (n : ℕ) → is_key_size n ≡ true → (16 ≤ n) × (n ≤ 32) × (n % 8 ≡ 0)
-key_size_true n e =
-    let is : (m : ℕ) → 16 ≤ m → m ≤ 32 → m % 8 ≡ 0 → eqb n m ≡ true → (16 ≤ n) × (n ≤ 32) × (n % 8 ≡ 0)
-    = λ m a b c t. let h = eqb-true n m t in (omega arith, omega arith, omega arith) in
-    ⊎_elim (λ r. ⊎_elim (is 16 (omega arith) (omega arith) (omega arith)) (is 24 (omega arith) (omega arith) (omega arith)) (or_cases (eqb n 16) (eqb n 24) r))
-    (is 32 (omega arith) (omega arith) (omega arith)) (or_cases (eqb n 16 || eqb n 24) (eqb n 32) e)
-
 -- the words that are not written yet are 0
 pub rest_more : (ws : List ℕ) (i w : ℕ) → drop i ws ≡ replicate (8 - i) 0 → drop (i + 1) (set ws i w) ≡ replicate (8 - (i + 1)) 0
 rest_more ws i w e =
@@ -74,14 +57,6 @@ filled_more ws bs i small h l e =
     let u : bytes 4 (number part) ++ [] ≡ part = append-nil (bytes 4 (number part)) ∙ ap (λ k. bytes k (number part)) (sym n) ∙ p in
     ap word_bytes (take_more_set ws i (number part) h) ∙ word_bytes-append (take i ws) (number part ∷ [])
     ∙ ap₂ ◌++◌ e u ∙ sym t ∙ ap (λ k. take k bs) (sym q)
-
--- words that are in use, taken out of the eight
-pub key_of-taken : (ws xs : List ℕ) (u : ℕ) → xs ≡ take u ws → key_of xs (length xs) ≡ key_of ws u
-key_of-taken ws xs u e = ap word_bytes (take_all (length xs) xs (omega arith) ∙ e)
-
-pub key_of-flipped : (ws xs : List ℕ) (u : ℕ) → xs ≡ take u ws → key_of (flipped xs) (length xs) ≡ key_of (flipped ws) u
-key_of-flipped ws xs u e =
-    ap word_bytes (take_all (length xs) (flipped xs) (omega (arith, length-map xs flip)) ∙ ap flipped e ∙ sym (take-map flip u ws))
 
 -- some words are in use
 size_words-some : (s : KeySize) → 0 < size_words s
@@ -111,6 +86,3 @@ part_at (suc k) (suc i) xs h =
 -- the size of so many bytes
 pub size_of-ok : (n : ℕ) (s : KeySize) → size_of n ≡ Ok s → (is_key_size n ≡ true) × (n ≡ 4 * size_words s)
 size_of-ok n s e = grind (arith, nat_tests)
-
-pub size_of-err : (n : ℕ) (r : Refusal) → size_of n ≡ Err r → (is_key_size n ≡ false) × (r ≡ KeyLength)
-size_of-err n r e = grind (arith, nat_tests)

@@ -1,23 +1,16 @@
 -- A piece that is taken from its front: what is left of it, fed from here on, ends where the whole piece ends.
-use Rattle.std.proofs.Common.{◌≡◌, ℕ, ◌+◌, ◌*◌, ◌%◌, ◌^◌, ◌<◌, ◌≤◌, List, ◌∷◌, length, take, drop, sym, ap, ◌∙◌, arith, length-drop, take-append-drop}
+use Rattle.std.proofs.Common.{◌≡◌, ℕ, ◌+◌, ◌*◌, ◌%◌, ◌^◌, ◌<◌, ◌≤◌, List, length, take, drop, sym, ap, ◌∙◌, arith, length-drop, take-append-drop}
 use lib.Bits.{bit_xor}
 use Rattle.std.proofs.ByRecursion.{All-take, All-drop}
 use Rattle.std.proofs.lemmas.List.{length-take-le}
 use Rattle.engine.specs.Bytes.{number, AllBytes}
-use Rattle.tinyjambu.specs.Duplex.{fed_byte, fed}
+use Rattle.tinyjambu.specs.Duplex.{fed}
 use Rattle.tinyjambu.proofs.Feeding.{fed_append, fed_block}
 
 pub record Left (run : ℕ → ℕ) (k s : ℕ) (piece : List ℕ) (state filled : ℕ) (left : List ℕ) : Type 0 where
   pub small : AllBytes left
   pub is : fed run filled state left ≡ fed run k s piece
   pub place : (filled + length left) % 4 ≡ (k + length piece) % 4
-
--- a byte less
-pub left_byte : {run : ℕ → ℕ} {k s : ℕ} {piece : List ℕ} {state filled : ℕ} (b : ℕ) (left : List ℕ) → Left run k s piece state filled (b ∷ left)
-    → (next place : ℕ) → next ≡ fed_byte run filled state b → place ≡ (filled + 1) % 4 → Left run k s piece next place left
-left_byte {run} {k} {piece = piece} {filled = filled} b left h next place e f =
-    let sum : (filled + length (b ∷ left)) % 4 ≡ (k + length piece) % 4 = h.place in
-    record { small = h.small.1; is = rw (e, f) h.is; place = omega arith }
 
 -- a full block less
 pub left_word : {run : ℕ → ℕ} {k s : ℕ} {piece : List ℕ} {state filled : ℕ} (left : List ℕ) → Left run k s piece state filled left → 4 ≤ length left → filled ≡ 0

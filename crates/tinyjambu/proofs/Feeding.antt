@@ -6,10 +6,7 @@ use lib.Pow.{shl-shr}
 use Rattle.std.proofs.lemmas.Bool.{cond-false, ne_eqb}
 use Rattle.engine.specs.Bytes.{number, AllBytes}
 use Rattle.tinyjambu.specs.Mode.{stream, xored}
-use Rattle.tinyjambu.specs.Duplex.{entered, fed_byte, fed, sealed_byte, sealed_bytes, text_of, sealed_of}
-use Rattle.tinyjambu.specs.declared.direction.Direction.{Direction}
-use Rattle.tinyjambu.specs.declared.direction.Direction.TheVariants.{Sealing, Opening}
-use Rattle.tinyjambu.proofs.Walk.{xor_undone}
+use Rattle.tinyjambu.specs.Duplex.{entered, fed_byte, fed, sealed_byte, sealed_bytes}
 
 -- a byte at its place is within the state
 pub byte_fits : (b k : ℕ) → b < 256 → k < 4 → b * 2 ^ (96 + 8 * k) < 2 ^ 128
@@ -108,8 +105,3 @@ module _ (run : ℕ → ℕ) where
   pub sealed_block : (bs : List ℕ) (s : ℕ) → 0 < length bs → length bs ≤ 4 → sealed_bytes run 0 s bs ≡ xored bs (stream (run s))
   sealed_block [] s h l = absurd (omega arith)
   sealed_block (b ∷ bs) s h l = ap₂ (λ x y. bit_xor b x ∷ y) (sym (stream_at (run s) 0 (omega arith)) ∙ omega arith) (sealed_rest bs b 0 (run s) (omega arith))
-
--- the sealed one of input and output is the text's, xored
-pub either_way : (d : Direction) (x k : ℕ) → sealed_of d x (bit_xor x k) ≡ bit_xor (text_of d x (bit_xor x k)) k
-either_way Sealing x k = refl
-either_way Opening x k = sym (xor_undone x k)

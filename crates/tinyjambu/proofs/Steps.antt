@@ -35,10 +35,7 @@ module _ {run : ℕ → ℕ} {k s at : ℕ} {piece : List ℕ} {state filled : �
         place = omega arith;
       }
 
--- nothing yet, and all of it
-pub fed-none : (run : ℕ → ℕ) (k s : ℕ) (piece : List ℕ) → k < 4 → Fed run k s 0 piece s k
-fed-none run k s piece h = record { within = omega arith; few = h; is = refl; place = omega arith }
-
+-- all of it
 pub fed_all : {run : ℕ → ℕ} {k s at : ℕ} {piece : List ℕ} {state filled : ℕ} → Fed run k s at piece state filled → length piece ≤ at
     → (state ≡ fed run k s piece) × (filled ≡ (k + length piece) % 4)
 fed_all {run} {k} {s} {at} {piece} h l =
@@ -160,10 +157,7 @@ module _ {run : ℕ → ℕ} {k s at : ℕ} {d : Direction} {input out : List �
       (omega arith)
       (block.sealed (stream (run state)) made ∙ sym (sealed_block run text state (omega arith) (omega arith)) ∙ ap (λ x. sealed_bytes run x state text) (sym z))
 
--- nothing yet, and all of it
-pub crypted_none : (run : ℕ → ℕ) (k s : ℕ) (d : Direction) (input out : List ℕ) → k < 4 → length out ≡ length input → Crypted run k s 0 d input out s k
-crypted_none run k s d input out h e = record { fed = fed-none run k s (text_of d input out) h; made = refl; long = e; small = tt }
-
+-- all of it
 pub crypted_all : {run : ℕ → ℕ} {k s at : ℕ} {d : Direction} {input out : List ℕ} {state filled : ℕ} → Crypted run k s at d input out state filled → length input ≤ at
     → (sealed_of d input out ≡ sealed_bytes run k s (text_of d input out)) × (state ≡ fed run k s (text_of d input out)) × (filled ≡ (k + length (text_of d input out)) % 4) × AllBytes out
 crypted_all {run} {k} {s} {at} {d} {input} {out} h l =
