@@ -1,4 +1,4 @@
-ghost use Rattle.std.specs.Prelude.{◌≡◌, ◌+◌, true, length, is_some, Some, None, OnErr, MatchResult};
+ghost use Rattle.std.specs.Prelude.{◌≡◌, ◌+◌, length, Some, None, IsSome, OnErr, MatchResult};
 ghost use Rattle.refusal.specs.declared.refusal.Refusal.TheVariants.{NonceLength, Broken};
 ghost use Rattle.tinyjambu.specs.Answers.{seal_answer, seal_out, length_check, tag_answer, open_refusal, open_answer, open_out};
 ghost use Rattle.engine.specs.Bytes.{word_bytes};
@@ -111,7 +111,7 @@ pub fn open<E: Engine>(
     ensures answer { result ≡ open_answer (E.key engine.old) nonce.now ad.now sealed.now out.old }
     ensures out { out.new ≡ open_out (E.key engine.old) nonce.now ad.now sealed.now out.old }
     ensures exact { OpensExactly (E.key engine.old) nonce.now ad.now sealed.now out.old result out.new }
-    ensures refused { is_some (open_refusal nonce.now ad.now sealed.now out.old) ≡ true → engine.new ≡ engine.old }
+    ensures refused { IsSome (open_refusal nonce.now ad.now sealed.now out.old) → engine.new ≡ engine.old }
     ensures same { E.key engine.new ≡ E.key engine.old }
 {
     let guard = Wipe { out };
