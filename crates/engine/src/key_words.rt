@@ -4,7 +4,8 @@ ghost use Rattle.engine.specs.Turns.{flipped};
 
 use crate::key_size::KeySize;
 
-// Eight words of 32 bits, of which the first 4, 6 or 8 are in use, by the size of a key.
+// Eight words of 32 bits, of which the first 4, 6 or 8 are in use, by the size of a key. An array with a size beside it: a key is
+// copied, which a vector without heap is not.
 #[derive(Clone, Copy)]
 pub struct KeyWords {
     pub(crate) words: [u32; 8],

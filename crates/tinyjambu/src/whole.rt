@@ -25,7 +25,7 @@ fn nonce_words(nonce: &[u8]) -> Result<[u32; 3], Refusal>
     Ok([load(nonce, 0), load(nonce, 4), load(nonce, 8)])
 }
 
-// Seals a text with its associated data: writes the sealed form at the start of `out`, and answers its length.
+// Seals a text with its associated data, which come one by one, as from C: writes the sealed form at the start of `out`, and answers its length.
 pub fn seal<E: Engine>(
     engine: &mut E,
     nonce: &[u8],
