@@ -43,14 +43,15 @@ fill_answer bytes = if is_key_size (length bytes) then Ok tt else Err (outside K
 abbrev pub fill_after : List ℕ → List ℕ → List ℕ
 fill_after key bytes = if is_key_size (length bytes) then bytes else key
 
--- words that are 4, 6 or 8 make such a key
-key_sized : (ws : List ℕ) (u : ℕ) → length ws ≡ 8 → 4 ≤ u → u ≤ 8 → u % 2 ≡ 0 → HasKeySize (key_of ws u)
-key_sized ws u e h l m =
+-- words in use that are 4, 6 or 8 make such a key
+pub key_of_sized : (ws : List ℕ) (u : ℕ) → 4 ≤ u → u ≤ 8 → u % 2 ≡ 0 → u ≤ length ws → HasKeySize (key_of ws u)
+key_of_sized ws u h l e m =
     let n = length-word_bytes (take u ws) in
-    let k = length-take-le u ws (omega arith) in
+    let k = length-take-le u ws m in
     record { least = omega arith; most = omega arith; eights = omega arith }
 
-pub key_of_sized : (ws : List ℕ) (s : KeySize) → length ws ≡ 8 → HasKeySize (key_of ws (size_words s))
-key_of_sized ws Bits128 e = key_sized ws 4 e (omega arith) (omega arith) (omega arith)
-key_of_sized ws Bits192 e = key_sized ws 6 e (omega arith) (omega arith) (omega arith)
-key_of_sized ws Bits256 e = key_sized ws 8 e (omega arith) (omega arith) (omega arith)
+-- so do as many as a size says
+pub words_sized : (ws : List ℕ) (s : KeySize) → length ws ≡ 8 → HasKeySize (key_of ws (size_words s))
+words_sized ws Bits128 e = key_of_sized ws 4 (omega arith) (omega arith) (omega arith) (omega arith)
+words_sized ws Bits192 e = key_of_sized ws 6 (omega arith) (omega arith) (omega arith) (omega arith)
+words_sized ws Bits256 e = key_of_sized ws 8 (omega arith) (omega arith) (omega arith) (omega arith)

@@ -1,5 +1,5 @@
 -- Thirty-two rounds at once.
-use Rattle.std.specs.Prelude.{◌≡◌, ℕ, ◌+◌, ◌-◌, ◌/◌, ◌%◌, ◌^◌, ◌<◌, List, map, length}
+use Rattle.std.specs.Prelude.{◌≡◌, ℕ, ◌+◌, ◌-◌, ◌/◌, ◌%◌, ◌^◌, ◌<◌, List, map, length, refl}
 use Rattle.std.proofs.lemmas.List.{length-map}
 use Rattle.engine.specs.Permutation.{bit, taps}
 
@@ -14,5 +14,6 @@ flip w = 2 ^ 32 - 1 - w
 abbrev pub flipped : List ℕ → List ℕ
 flipped ws = map flip ws
 
-pub length-flipped : (ws : List ℕ) → length ws ≡ 8 → length (flipped ws) ≡ 8
-length-flipped ws e = rw length-map e
+-- there are as many
+pub length-flipped : (ws : List ℕ) → length (flipped ws) ≡ length ws
+length-flipped ws = rw length-map refl

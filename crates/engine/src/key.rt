@@ -57,6 +57,7 @@ impl TryFrom<&[u8]> for Key {
         let size = KeySize::try_from(bytes.len())?;
         let mut words = [0; 8];
         let (parts, _) = bytes.as_chunks::<4>();
+        // Written by its index: what is written through an adapter of `iter_mut` the check does not know.
         for (i, part) in parts.iter().enumerate() {
             words[i] = u32::from_le_bytes(*part);
         }

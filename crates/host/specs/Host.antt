@@ -1,5 +1,5 @@
 -- What a C host is answered.
-use Rattle.std.specs.Prelude.{ℕ, ◌-◌, cond, List, length, ℤ, pos, negsuc, Some, Ok, Err, Option, Result}
+use Rattle.std.specs.Prelude.{ℕ, ◌-◌, if◌then◌else◌, List, length, ℤ, pos, negsuc, Some, Ok, Err, Option, Result}
 use Rattle.refusal.specs.declared.fault.Fault.{Fault}
 use Rattle.refusal.specs.declared.refusal.Refusal.{Refusal}
 use Rattle.refusal.specs.declared.refusal.Refusal.TheVariants.{KeyLength}
@@ -15,7 +15,7 @@ signed (Err f) = negsuc (refusal_number f.refusal - 1)
 
 -- the length of the key is checked first
 abbrev pub host_check : List ℕ → Option Refusal → Option Refusal
-host_check key rest = cond (is_key_size (length key)) rest (Some KeyLength)
+host_check key rest = if is_key_size (length key) then rest else Some KeyLength
 
 -- whole sealing under a key of bytes
 abbrev pub host_seal_check : List ℕ → List ℕ → List ℕ → List ℕ → List ℕ → Option Refusal

@@ -5,7 +5,7 @@ use crate::refusal::Refusal;
 use std::error::Error;
 use std::fmt;
 
-// A refusal, and where in a roll it came from: the floor and the entry number, 0 and 0 outside rolls.
+// A refusal, and where in a roll it came from: the floor and the entry number, 0 and 0 outside rolls, as every fault prints both.
 #[derive(Clone, Copy, PartialEq, Eq, Debug)]
 pub struct Fault {
     pub refusal: Refusal,

@@ -34,23 +34,12 @@ impl Refusal {
             entry,
         }
     }
-}
 
-// The number of a refusal, 1 to 13.
-impl From<Refusal> for u8 {
-    ghost from_gives = { λ refusal number. number ≡ refusal_number refusal };
-
-    fn from(refusal: Refusal) -> u8 {
-        refusal as u8
-    }
-}
-
-// A refusal in words.
-impl fmt::Display for Refusal {
-    ghost output = { λ refusal. Some (refusal_words refusal) };
-
-    fn fmt<W: fmt::Write>(&self, f: &mut fmt::Formatter<W>) -> fmt::Result {
-        f.write_str(match self {
+    // The refusal in words.
+    pub fn words(self) -> &'static str
+        ensures { result.now ≡ refusal_words self }
+    {
+        match self {
             Refusal::KeyLength => "the key is not 16, 24 or 32 bytes",
             Refusal::NonceLength => "the nonce is not 12 bytes",
             Refusal::DataTooLong => "the associated data passes 65536 bytes",
@@ -64,7 +53,25 @@ impl fmt::Display for Refusal {
             Refusal::NoSpace => "the charge of the entry is more than the space",
             Refusal::OutTooShort => "the out buffer is too short",
             Refusal::Broken => "no text seals to the bytes",
-        })
+        }
+    }
+}
+
+// The number of a refusal, 1 to 13.
+impl From<Refusal> for u8 {
+    ghost from_gives = { λ refusal number. number ≡ refusal_number refusal };
+
+    fn from(refusal: Refusal) -> u8 {
+        refusal as u8
+    }
+}
+
+// A refusal prints as its words.
+impl fmt::Display for Refusal {
+    ghost output = { λ refusal. Some (refusal_words refusal) };
+
+    fn fmt<W: fmt::Write>(&self, f: &mut fmt::Formatter<W>) -> fmt::Result {
+        f.write_str(self.words())
     }
 }
 

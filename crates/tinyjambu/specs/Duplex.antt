@@ -1,7 +1,7 @@
 -- The cipher at work on bytes that come one after another, however they are cut into pieces. Four of them make a block: its run is done
 -- when its first byte comes, and what is left of the last block is marked when the phase ends.
 -- Here s is the state, k the number of bytes in the open block, and `run` what a phase does to the state before each block.
-use Rattle.std.specs.Prelude.{ℕ, ◌+◌, ◌*◌, ◌/◌, ◌%◌, ◌^◌, cond, List, [], ◌∷◌, ◌==◌, bit_xor}
+use Rattle.std.specs.Prelude.{ℕ, ◌+◌, ◌*◌, ◌/◌, ◌%◌, ◌^◌, if◌then◌else◌, List, [], ◌∷◌, ◌==◌, bit_xor}
 use Rattle.engine.specs.Permutation.{rounds, short_rounds, long_rounds}
 use Rattle.tinyjambu.specs.Mode.{frame}
 use Rattle.tinyjambu.specs.declared.phase.Phase.{Phase}
@@ -31,7 +31,7 @@ phase_run phase key s = rounds key (phase_rounds phase key) (frame (frame_bits p
 
 -- the state that the next byte meets
 abbrev pub entered : (ℕ → ℕ) → ℕ → ℕ → ℕ
-entered run k s = cond (k == 0) (run s) s
+entered run k s = if k == 0 then run s else s
 
 -- the state after a byte, which goes in from s96 upward
 abbrev pub fed_byte : (ℕ → ℕ) → ℕ → ℕ → ℕ → ℕ
@@ -52,7 +52,7 @@ sealed_bytes run k s (b ∷ bs) = sealed_byte run k s b ∷ sealed_bytes run ((k
 
 -- the state at the end of a phase
 abbrev pub closed : ℕ → ℕ → ℕ
-closed k s = cond (k == 0) s (bit_xor s (k * 2 ^ 32))
+closed k s = if k == 0 then s else bit_xor s (k * 2 ^ 32)
 
 -- which of input and output is the text
 abbrev pub text_of : {A : Type 0} → Direction → A → A → A

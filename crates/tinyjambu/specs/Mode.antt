@@ -1,6 +1,6 @@
 -- TinyJAMBU as authenticated encryption with associated data, over lists of bytes, as its designers define it (version 2).
 -- A state is a number of 128 bits, bit j being s_j.
-use Rattle.std.specs.Prelude.{ℕ, ◌-◌, ◌*◌, ◌/◌, ◌%◌, ◌^◌, Bool, true, false, cond, ◌&&◌, List, [], ◌∷◌, ◌++◌, length, take, drop, Some, None, Option, ◌==◌, bit_xor, nat_le}
+use Rattle.std.specs.Prelude.{ℕ, ◌-◌, ◌*◌, ◌/◌, ◌%◌, ◌^◌, Bool, true, false, if◌then◌else◌, ◌&&◌, List, [], ◌∷◌, ◌++◌, length, take, drop, Some, None, Option, ◌==◌, bit_xor, nat_le}
 use Rattle.engine.specs.Permutation.{rounds, short_rounds, long_rounds}
 use Rattle.engine.specs.Bytes.{number, bytes}
 
@@ -21,7 +21,7 @@ inject block s = bit_xor s (number block * 2 ^ 96)
 
 -- the length of a block that is not full goes into s32 and s33
 abbrev pub mark : List ℕ → ℕ → ℕ
-mark block s = cond (length block == 4) s (bit_xor s (length block * 2 ^ 32))
+mark block s = if length block == 4 then s else bit_xor s (length block * 2 ^ 32)
 
 -- s64 to s95
 abbrev pub stream : ℕ → ℕ
@@ -101,4 +101,4 @@ unfoldable pub opened : List ℕ → List ℕ → List ℕ → List ℕ → Opti
 opened key n ad c =
     let s : ℕ = absorbed key (begun key n) (blocks ad) in
     let cs : List (List ℕ) = blocks (take (length c - 8) c) in
-    cond (nat_le 8 (length c) && same (tag key (plain_state key s cs)) (drop (length c - 8) c)) (Some (plaintext key s cs)) None
+    if nat_le 8 (length c) && same (tag key (plain_state key s cs)) (drop (length c - 8) c) then Some (plaintext key s cs) else None

@@ -1,7 +1,7 @@
 -- A nonce as it is given to a whole call.
-use Rattle.std.specs.Prelude.{ℕ, cond, List, [], ◌∷◌, length, take, drop, Some, None, Option, ◌==◌}
+use Rattle.std.specs.Prelude.{ℕ, if◌then◌else◌, List, [], ◌∷◌, length, take, drop, Some, None, Option, ◌==◌}
 use Rattle.engine.specs.Bytes.{number}
 
 -- a nonce of twelve bytes as three words
 abbrev pub nonce_words : List ℕ → Option (List ℕ)
-nonce_words n = cond (length n == 12) (Some (number (take 4 n) ∷ number (take 4 (drop 4 n)) ∷ number (take 4 (drop 8 n)) ∷ [])) None
+nonce_words n = if length n == 12 then Some (number (take 4 n) ∷ number (take 4 (drop 4 n)) ∷ number (take 4 (drop 8 n)) ∷ []) else None

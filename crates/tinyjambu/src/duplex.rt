@@ -1,6 +1,6 @@
 ghost use Rattle.std.specs.Prelude.{◌≡◌, ℕ, ◌+◌, ◌*◌, ◌/◌, ◌%◌, ◌^◌, ◌<◌, List, [], ◌++◌, length, bit_xor};
 ghost use Rattle.engine.specs.Bytes.{joined, word_bytes};
-ghost use Rattle.tinyjambu.specs.Mode.{stream, nonce_word, data_run, text_run, tag};
+ghost use Rattle.tinyjambu.specs.Mode.{stream, data_run, text_run, tag};
 ghost use Rattle.tinyjambu.specs.Duplex.{phase_run, entered, fed_byte, sealed_byte, closed, text_of, sealed_of};
 
 use crate::direction::Direction;
@@ -17,12 +17,12 @@ pub struct Duplex {
     ghost few: { filled < 4 },
 }
 
-// One word of the nonce.
-fn nonce_step<E: Engine>(engine: &mut E, state: State, word: u32) -> State
-    ensures state { joined result ≡ nonce_word (E.key engine.old) word (joined state) }
+// The run of a phase, and then a word that goes in from s96 upward.
+fn word_step<E: Engine>(engine: &mut E, state: State, phase: Phase, word: u32) -> State
+    ensures state { joined result ≡ bit_xor (phase_run phase (E.key engine.old) (joined state)) (word * 2 ^ 96) }
     ensures same { E.key engine.new ≡ E.key engine.old }
 {
-    put(phase_run(engine, state, Phase::Nonce), word, 96)
+    put(phase_run(engine, state, phase), word, 96)
 }
 
 impl Duplex {
@@ -35,9 +35,9 @@ impl Duplex {
     {
         let [first, second, third] = nonce;
         let begun = engine.long_run([0; 4]);
-        let one = nonce_step(engine, begun, first);
-        let two = nonce_step(engine, one, second);
-        let state = nonce_step(engine, two, third);
+        let one = word_step(engine, begun, Phase::Nonce, first);
+        let two = word_step(engine, one, Phase::Nonce, second);
+        let state = word_step(engine, two, Phase::Nonce, third);
         Duplex { state, filled: 0 }
     }
 
@@ -96,7 +96,7 @@ impl Duplex {
         ensures filled { self.new.filled ≡ 0 }
         ensures same { E.key engine.new ≡ E.key engine.old }
     {
-        self.state = put(phase_run(engine, self.state, Phase::Data), word, 96);
+        self.state = word_step(engine, self.state, Phase::Data, word);
     }
 
     // Takes a piece of associated data.

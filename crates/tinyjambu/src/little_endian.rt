@@ -3,7 +3,8 @@ ghost use Rattle.engine.specs.Bytes.{number, bytes};
 
 use byteorder::{ByteOrder, LittleEndian};
 
-// The word of the four bytes from `at` on, the least byte first.
+// The word of the four bytes from `at` on, the least byte first. (The tape reads and writes such words too; functions for both would
+// be public, and no public function asks anything of its caller.)
 pub(crate) fn load(source: &[u8], at: usize) -> u32
     requires { at + 4 ≤ length source.now }
     ensures { result ≡ number (take 4 (drop at source.now)) }

@@ -9,7 +9,6 @@ ghost use Rattle.tinyjambu.specs.Laws.{OpensExactly};
 use crate::direction::Direction;
 use crate::duplex::Duplex;
 use crate::limits::{check_limit, check_room};
-use crate::little_endian::load;
 use crate::pieces::seal_pieces;
 use crate::wipe::Wipe;
 use engine::Engine;
@@ -19,13 +18,17 @@ use refusal::{Fault, Refusal};
 fn nonce_words(nonce: &[u8]) -> Result<[u32; 3], Refusal>
     ensures { MatchResult result (λ words. nonce_words nonce.now ≡ Some words) (λ refusal. (nonce_words nonce.now ≡ None) × (refusal ≡ NonceLength)) }
 {
-    if nonce.len() != 12 {
+    let ([first, second, third], []) = nonce.as_chunks::<4>() else {
         return Err(Refusal::NonceLength);
-    }
-    Ok([load(nonce, 0), load(nonce, 4), load(nonce, 8)])
+    };
+    Ok([
+        u32::from_le_bytes(*first),
+        u32::from_le_bytes(*second),
+        u32::from_le_bytes(*third),
+    ])
 }
 
-// Seals a text with its associated data, which come one by one, as from C: writes the sealed form at the start of `out`, and answers its length.
+// Seals a text with its associated data (parameters one by one, here and below, as the calls from C take them): writes the sealed form at the start of `out`, and answers its length.
 pub fn seal<E: Engine>(
     engine: &mut E,
     nonce: &[u8],
@@ -56,7 +59,7 @@ fn text_len(ad: usize, sealed: usize, room: usize) -> Result<usize, Refusal>
     Ok(len)
 }
 
-// Whether two tags are the same, without an early exit.
+// Whether two tags are the same, without an early exit: `==` stops where they first differ.
 fn same_tag(made: [u8; 8], given: &[u8]) -> bool
     requires { length given.now ≡ 8 }
     ensures { result ≡ same made given.now }
