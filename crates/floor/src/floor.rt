@@ -5,7 +5,7 @@ ghost use Rattle.roll.specs.Floor.{nonce, above, raised, sealed};
 ghost use Rattle.roll.specs.Kinds.{kind_byte};
 ghost use Rattle.roll.specs.Labels.{nonce_of, data_of};
 ghost use Rattle.roll.specs.Laws.{raised_lawful};
-ghost use Rattle.floor.specs.Laid.{layer};
+ghost use Rattle.floor.specs.Own.{own_layer};
 
 use crate::lay::Lay;
 use roll::{Kind, LONGEST, Label, MOST, Nonce, Roll};
@@ -26,10 +26,11 @@ const TAG: u32 = 8;
 const HIGHEST: u32 = 65535;
 
 impl<R: Roll, E: Engine> Floor<R, E> {
-    // The number that a text will have as an entry, or why it is refused at this floor.
+    // The number that a text will have as an entry, or why it is refused at this floor. Tape and pocket ask the like: one function for
+    // every roll, called in an impl of the trait, would lead back to the impl, which the check does not cover (tried).
     fn admit(&self, floor: u32, text: &[u8]) -> Result<u32, Fault>
         requires { floor ≡ above (R.Roll.meaning self.now.below) }
-        ensures { result ≡ append_answer (raised (layer (E.key self.now.engine) self.now.kind) (R.Roll.meaning self.now.below)) text.now }
+        ensures { result ≡ append_answer (raised (own_layer E.key self.now) (R.Roll.meaning self.now.below)) text.now }
     {
         let entry = self.count();
         let len = text.len();
@@ -62,23 +63,23 @@ impl<R: Roll, E: Engine> Floor<R, E> {
 }
 
 impl<R: Roll, E: Engine> Roll for Floor<R, E> {
-    ghost meaning = { λ s. raised (layer (E.key s.engine) s.kind) (R.Roll.meaning s.below) };
+    ghost meaning = { λ s. raised (own_layer E.key s) (R.Roll.meaning s.below) };
 
     ghost bottom = { λ s. R.Roll.bottom s.below };
 
-    ghost layers = { λ s. layer (E.key s.engine) s.kind ∷ R.Roll.layers s.below };
+    ghost layers = { λ s. own_layer E.key s ∷ R.Roll.layers s.below };
 
     ghost image = { λ s. R.Roll.image s.below };
 
-    ghost put = { λ s t. R.Roll.writes (R.Roll.bottom s.below) (R.Roll.image s.below) (sealed (layer (E.key s.engine) s.kind ∷ R.Roll.layers s.below) (R.Roll.bottom s.below) (count (R.Roll.bottom s.below)) t) };
+    ghost put = { λ s t. R.Roll.writes (R.Roll.bottom s.below) (R.Roll.image s.below) (sealed (own_layer E.key s ∷ R.Roll.layers s.below) (R.Roll.bottom s.below) (count (R.Roll.bottom s.below)) t) };
 
     ghost writes = { R.Roll.writes };
 
-    ghost stands = { λ s. ap (raised (layer (E.key s.engine) s.kind)) (R.Roll.stands s.below) };
+    ghost stands = { λ s. ap (raised (own_layer E.key s)) (R.Roll.stands s.below) };
 
     ghost lawful = { λ s. R.Roll.lawful s.below };
 
-    ghost lawful_top = { λ s. raised_lawful (layer (E.key s.engine) s.kind) (R.Roll.meaning s.below) (R.Roll.lawful_top s.below) };
+    ghost lawful_top = { λ s. raised_lawful (own_layer E.key s) (R.Roll.meaning s.below) (R.Roll.lawful_top s.below) };
 
     ghost puts = { λ s t. refl };
 
@@ -119,7 +120,7 @@ impl<R: Roll, E: Engine> Roll for Floor<R, E> {
         let floor = self.floor();
         let entry = self.admit(floor, text)?;
         let label = self.label(floor, entry);
-        // A buffer with a length beside it: no heap, and a roll reads into a slice.
+        // A buffer with a length beside it: no heap, and a seal is written into a slice.
         let mut sealed = [0u8; LONGEST];
         let n = label.seal(&mut self.engine, text, &mut sealed).unwrap();
         self.below.append(&sealed[..n])

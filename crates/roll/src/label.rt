@@ -15,6 +15,14 @@ pub struct Label {
 }
 
 impl Label {
+    // The bytes of the nonce, and the associated data.
+    fn bytes(self) -> ([u8; 12], [u8; 1])
+        ensures nonce { result.0 ≡ nonce_of self }
+        ensures data { result.1 ≡ data_of self }
+    {
+        (self.nonce.into(), [self.kind.into()])
+    }
+
     // Seals a text: writes the sealed form at the start of `out`, and answers its length.
     pub fn seal<E: Engine>(
         self,
@@ -27,8 +35,7 @@ impl Label {
         ensures same { E.key engine.new ≡ E.key engine.old }
         ensures refused { OnErr result (engine.new ≡ engine.old) }
     {
-        let nonce: [u8; 12] = self.nonce.into();
-        let data = [u8::from(self.kind)];
+        let (nonce, data) = self.bytes();
         tinyjambu::seal(engine, &nonce, &data, text, out)
     }
 
@@ -45,8 +52,7 @@ impl Label {
         ensures same { E.key engine.new ≡ E.key engine.old }
         ensures refused { IsSome (open_refusal (nonce_of self) (data_of self) sealed.now out.old) → engine.new ≡ engine.old }
     {
-        let nonce: [u8; 12] = self.nonce.into();
-        let data = [u8::from(self.kind)];
+        let (nonce, data) = self.bytes();
         tinyjambu::open(engine, &nonce, &data, sealed, out)
     }
 }

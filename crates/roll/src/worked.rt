@@ -20,7 +20,7 @@ fn read_text<R: Roll>(roll: &mut R, number: u32, texts: &mut Vec<u8>) -> Result<
     ensures room { vec_capacity texts.old ≤ vec_capacity texts.new }
     ensures same { Same R.Roll.meaning R.Roll.bottom R.Roll.layers R.Roll.image roll.old roll.new }
 {
-    // A buffer with a length beside it: no heap, and a roll reads into a slice.
+    // A buffer with a length beside it: resizing `texts`, reading into it and cutting it again is no plainer.
     let mut out = [0u8; LONGEST];
     let r = roll.read(number, &mut out);
     if let Ok(n) = r {
