@@ -1,6 +1,7 @@
 -- What a floor answers and leaves, by what the roll below and the cipher do.
 use Rattle.std.proofs.Common.{◌≡◌, ℕ, ◌+◌, ◌-◌, ◌<◌, ◌≤◌, true, false, List, [], ◌∷◌, ◌++◌, length, take, drop, replicate, is_ok, Some, None, Ok, Err, Option, Result, sym, refl, ap, ◌∙◌, ap₂, ⊎_elim, append-nil, arith}
 use lib.ListN.{length-replicate}
+use Rattle.std.specs.Prelude.{OnErr}
 use Rattle.std.proofs.lemmas.Bool.{cases_lt, le-ltb, lt-ltb, cond-false, cond-true, both_ways}
 use Rattle.std.proofs.lemmas.List.{take_at, drop_all, length-take-le}
 use Rattle.refusal.specs.declared.fault.Fault.{Fault}
@@ -84,8 +85,8 @@ pub refused : (l : Layer) (m : Meaning) (ls : List Layer) (b : Meaning) (t : Lis
 refused l m ls b t f p e = sym (refused_down (l ∷ ls) b (count b) t f (ap (λ x. append_answer (raised l x) t) (sym p) ∙ e))
 
 -- an accepted append is not refused
-pub not_refused : {A : Type 0} (a : Meaning) (t : List ℕ) (r : Result ℕ Fault) → Takes a t → r ≡ append_answer a t → is_ok r ≡ false → A
-not_refused a t r h e p = absurd (both_ways _ p (ap is_ok (e ∙ taken a t h)))
+pub not_refused : (A : Type 0) (a : Meaning) (t : List ℕ) (r : Result ℕ Fault) → Takes a t → r ≡ append_answer a t → OnErr r A
+not_refused A a t r h e = rw (e ∙ taken a t h) tt
 
 -- no entry has a number of which the length is refused
 no_entry : (a : Meaning) (i : ℕ) (f : Fault) (o : Option Entry) → measured a i o ≡ Err f → o ≡ None

@@ -1,4 +1,4 @@
-ghost use Rattle.std.specs.Prelude.{◌≡◌, ℕ, false, List, length, is_ok};
+ghost use Rattle.std.specs.Prelude.{◌≡◌, ℕ, List, length, OnErr};
 ghost use Rattle.roll.specs.Roll.{Meaning, Lawful, Put, count, append_answer, append_after, image_after, length_answer, read_answer, read_out};
 ghost use Rattle.roll.specs.Floor.{Layer, piled, sealed};
 
@@ -67,7 +67,7 @@ pub trait Roll {
         ensures stored { bottom self.new ≡ append_after (bottom self.old) (sealed (layers self.old) (bottom self.old) (count (bottom self.old)) text.now) }
         ensures floors { layers self.new ≡ layers self.old }
         ensures bytes { image self.new ≡ image_after result (put self.old text.now) (image self.old) }
-        ensures refused { is_ok result ≡ false → self.new ≡ self.old };
+        ensures refused { OnErr result (self.new ≡ self.old) };
 
     // Writes the text of an entry at the start of `out`, and answers its length, or refuses with 8, 12 or 13 and leaves only
     // zeros in `out`.

@@ -41,5 +41,5 @@ returns g c =
       bytes =
           e.bytes ∙ ap (λ n. image_after c.append.result n image) (g.R.Roll.puts s.below stored)
           ∙ ap (λ x. image_after c.append.result (g.R.Roll.writes b image x) image) down;
-      refused = λ r. not_refused (raised l m) t _ h answer r;
+      refused = not_refused _ (raised l m) t _ h answer;
     }
