@@ -1,12 +1,10 @@
-ghost use Rattle.std.specs.Prelude.{◌≡◌, ◌+◌, ◌<◌, ◌≤◌, [], length, take, replicate, refl, slice_index, OnOk, IfOk, OnErr, IfErr};
-ghost use Rattle.refusal.specs.Refusals.{fault};
-ghost use Rattle.refusal.specs.declared.refusal.Refusal.TheVariants.{NoEntry};
+ghost use Rattle.std.specs.Prelude.{◌≡◌, ◌≤◌, [], length, replicate, refl};
+ghost use Rattle.roll.specs.Giving.{Finds};
 ghost use Rattle.pocket.specs.Pocket.{paged, paged_all, pocket, pocket_writes};
 
 use arrayvec::ArrayVec;
-use roll::Roll;
-use std::ops::Range;
-use tinyjambu::{Fault, Refusal, Wipe};
+use roll::{FLOOR, Roll, give};
+use tinyjambu::{Fault, Refusal};
 
 // A roll on 64 pages of 64 bytes of its own, in which each entry begins on a page of its own.
 #[derive(Drop)]
@@ -17,9 +15,6 @@ pub struct Pocket {
     ghost whole: { length bytes ≡ 4096 },
     ghost fits: { paged_all lengths.items ≤ 4096 },
 }
-
-// The floor number of a bottom.
-const FLOOR: u32 = 0;
 
 // Every entry is shorter than this.
 const BOUND: u32 = 513;
@@ -54,19 +49,15 @@ impl Pocket {
         }
     }
 
-    // Where the bytes of an entry stand, or refusal 8.
-    fn place(&self, entry: u32) -> Result<Range<usize>, Fault>
-        ensures found { OnOk result (entry < length self.now.lengths.items) }
-        ensures start { IfOk result (λ place. place.start ≡ paged_all (take entry self.now.lengths.items)) }
-        ensures end { IfOk result (λ place. place.end ≡ place.start + slice_index self.now.lengths.items entry) }
-        ensures missing { OnErr result (length self.now.lengths.items ≤ entry) }
-        ensures refusal { IfErr result (λ f. f ≡ fault NoEntry 0 entry) }
+    // The bytes of an entry, or refusal 8.
+    fn part(&self, entry: u32) -> Result<&[u8], Fault>
+        ensures { Finds (roll_of self.now) entry result }
     {
         let Some(&len) = self.lengths.get(entry as usize) else {
             return Err(Refusal::NoEntry.at(FLOOR, entry));
         };
         let start = paged_all(&self.lengths[..entry as usize]);
-        Ok(start..start + len as usize)
+        Ok(&self.bytes[start..start + len as usize])
     }
 }
 
@@ -118,7 +109,7 @@ impl Roll for Pocket {
     }
 
     fn length(&self, entry: u32) -> Result<usize, Fault> {
-        Ok(self.place(entry)?.len())
+        Ok(self.part(entry)?.len())
     }
 
     fn append(&mut self, text: &[u8]) -> Result<u32, Fault> {
@@ -137,14 +128,6 @@ impl Roll for Pocket {
     }
 
     fn read(&mut self, entry: u32, out: &mut [u8]) -> Result<usize, Fault> {
-        let guard = Wipe { out };
-        let place = self.place(entry)?;
-        let len = place.len();
-        if guard.out.len() < len {
-            return Err(Refusal::OutTooShort.at(FLOOR, entry));
-        }
-        guard.out[0..len].copy_from_slice(&self.bytes[place]);
-        guard.keep();
-        Ok(len)
+        give(self.part(entry), entry, out)
     }
 }

@@ -1,11 +1,13 @@
 -- What a roll answers to a read and to a question for a length, by what stands under the number.
-use Rattle.std.proofs.Common.{◌≡◌, ℕ, zero, suc, ◌<◌, ◌≤◌, List, [], ◌∷◌, ◌++◌, length, take, drop, replicate, Some, None, Ok, Err, Option, Result, sym, refl, ap, ◌∙◌, ap₂, arith}
+use Rattle.std.proofs.Common.{◌≡◌, ℕ, zero, suc, ◌<◌, ◌≤◌, if◌then◌else◌, ltb, List, [], ◌∷◌, ◌++◌, length, take, drop, replicate, Some, None, Ok, Err, Option, Result, sym, refl, ap, ◌∙◌, ap₂, arith}
 use lib.ListN.{length-replicate}
+use Rattle.std.specs.Borrow.{Bor}
 use Rattle.std.proofs.lemmas.Bool.{cond-true, cond-false, lt-ltb, le-ltb}
 use Rattle.refusal.specs.declared.fault.Fault.{Fault}
 use Rattle.refusal.specs.declared.refusal.Refusal.TheVariants.{NoEntry, OutTooShort, Broken}
 use Rattle.roll.specs.Roll.{Meaning, Entry, text, broken, entry_length, Lawful, count, first, entry, length_answer, read_answer, read_out}
 use Rattle.refusal.specs.Refusals.{fault}
+use Rattle.roll.specs.Giving.{Finds, given_answer}
 use Rattle.roll.specs.Work.{text_at}
 use Rattle.roll.proofs.Rolls.{said, put, none_some, never, entries_fit, read_told}
 
@@ -42,6 +44,13 @@ module _ (m : Meaning) (i : ℕ) where
     read_given t e h =
         let a = ap (said m i (length out)) e ∙ cond-false _ _ _ (le-ltb (length out) (length t) h) in
         (a, ap₂ (λ o r. put out o r) e a)
+
+-- what a bottom finds is given out with the answer to a read
+pub read_found : (m : Meaning) (i room : ℕ) (found : Result (Bor (List ℕ)) Fault) → m.floor ≡ 0 → Finds m i found → given_answer found i room ≡ read_answer m i room
+read_found m i room (Err f) low (none, is) = ap Err is ∙ ap (λ k. Err (fault NoEntry k i)) (sym low) ∙ sym (ap (said m i room) none)
+read_found m i room (Ok bytes) low there =
+    let n = length bytes.now in
+    ap (λ k. if ltb room n then Err (fault OutTooShort k i) else Ok n) (sym low) ∙ sym (ap (said m i room) there)
 
 -- a broken entry stands there
 abbrev pub BrokenThere : Option Entry → Type 0

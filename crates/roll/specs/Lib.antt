@@ -9,3 +9,4 @@ pub mod Kinds
 pub mod Agree
 pub mod Labels
 pub mod Same
+pub mod Giving

@@ -2,7 +2,6 @@
 use Rattle.std.proofs.Common.{◌≡◌, ℕ, zero, suc, ◌+◌, ◌-◌, ◌*◌, ◌<◌, ◌≤◌, false, List, [], ◌∷◌, ◌++◌, map, length, drop, drop_of_length-le, Some, None, Ok, Err, Option, sym, refl, ap, ◌∙◌, ap₂, ⊎_elim, arith}
 use Rattle.std.specs.List.{range_with_len}
 use Rattle.std.specs.Option.{option_map_or}
-use Rattle.std.specs.declared.ops.Range.{Range}
 use Rattle.std.proofs.lemmas.List.FromFn.{length-map-range_with_len, map-range_with_len_more}
 use Rattle.std.proofs.lemmas.Bool.{both_ways, cases_lt, cond-true, cond-false, cond_both}
 use Rattle.engine.specs.Bytes.{number, bytes}
@@ -11,9 +10,9 @@ use Rattle.refusal.specs.declared.refusal.Refusal.{Refusal}
 use Rattle.roll.specs.Memory.{part, written}
 use Rattle.roll.specs.Roll.{Meaning, Entry, text, count, entry, first, append_answer, append_after, grown}
 use Rattle.refusal.specs.Refusals.{fault}
-use Rattle.roll.proofs.Memories.{part_length, written_length, written_there, written_below, written_above}
+use Rattle.roll.proofs.Memories.{written_length, written_there, written_below, written_above}
 use Rattle.roll.proofs.Rolls.{Takes, taken, after_is}
-use Rattle.tape.specs.Tape.{word, name_of, count_of, begin_of, end_of, last_end, InOrder, in_order, between, tape_entry, tape_charge, roll_of, ordered_tape, nothing, tape, StandsAt, entry_put, tape_put}
+use Rattle.tape.specs.Tape.{word, name_of, count_of, begin_of, end_of, last_end, InOrder, in_order, between, tape_entry, tape_charge, roll_of, ordered_tape, nothing, tape, entry_put, tape_put}
 use Rattle.tape.specs.Judged.{extent_of, judged, judgement}
 use Rattle.tape.specs.TapeLaws.{ordered, charge_is}
 use Rattle.tape.specs.declared.extent.Extent.{Extent}
@@ -129,19 +128,23 @@ below_count memory i =
     (λ t h. (ordered memory t, omega (arith, tape_count memory (ordered memory t))))
     (λ f h. absurd (omega arith))
 
--- and stands there
-pub stands_at : (memory : List ℕ) (i : ℕ) → i < count (tape memory) → StandsAt memory i (record { start = begin_of memory i; end = end_of memory i })
-stands_at memory i h =
+-- an entry of a tape, and where it ends, stand within the memory
+pub record StandsIn (memory : List ℕ) (i : ℕ) : Type 0 where
+  pub noted : 4 * (i + 1) ≤ length memory
+  pub rises : begin_of memory i ≤ end_of memory i
+  pub within : end_of memory i ≤ length memory
+  pub stands : entry (tape memory) i ≡ Some (text (between memory i))
+
+-- as each entry below the count does
+pub stands_in : (memory : List ℕ) (i : ℕ) → i < count (tape memory) → StandsIn memory i
+stands_in memory i h =
     let q = below_count memory i h in
     record {
+      noted = omega (arith, q.0.room);
       rises = q.0.rising i q.1;
       within = omega (arith, q.0.rising i q.1, between_within memory q.0 i q.1);
       stands = ap (λ m. entry m i) (tape_is memory q.0) ∙ tape_at memory q.0 i q.1;
     }
-
--- so it is as long as its part of the memory
-pub stands-length : (memory : List ℕ) (i : ℕ) (at : Range ℕ) → StandsAt memory i at → length (part at.start (at.end - at.start) memory) ≡ at.end - at.start
-stands-length memory i at s = part_length at.start (at.end - at.start) memory (omega (arith, s.rises, s.within))
 
 -- from the count on there is no entry
 pub entry_past : (m : Meaning) (i : ℕ) → count m ≤ i → entry m i ≡ None

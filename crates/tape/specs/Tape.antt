@@ -1,10 +1,9 @@
 -- What a memory means as a tape: a header of 16 bytes, the entries one behind the other, and at the end of the memory where each of them ends.
-use Rattle.std.specs.Prelude.{◌≡◌, ℕ, zero, suc, ◌+◌, ◌-◌, ◌*◌, ◌<◌, ◌≤◌, Bool, true, if◌then◌else◌, ◌&&◌, List, [], map, length, Some, ◌==◌, nat_le, nat_lt}
+use Rattle.std.specs.Prelude.{◌≡◌, ℕ, zero, suc, ◌+◌, ◌-◌, ◌*◌, ◌<◌, ◌≤◌, Bool, true, if◌then◌else◌, ◌&&◌, List, [], map, length, ◌==◌, nat_le, nat_lt}
 use Rattle.std.specs.List.{range_with_len}
-use Rattle.std.specs.declared.ops.Range.{Range}
 use Rattle.engine.specs.Bytes.{number, bytes}
 use Rattle.roll.specs.Memory.{part, written}
-use Rattle.roll.specs.Roll.{Meaning, Entry, text, entry, Put}
+use Rattle.roll.specs.Roll.{Meaning, Entry, text, Put}
 
 -- the number in the four bytes at a place, the least byte first
 abbrev pub word : ℕ → List ℕ → ℕ
@@ -103,12 +102,6 @@ nothing = record { name = 0; floor = 0; bound = 0; space = 0; charge = λ n. 0; 
 -- what a memory means
 unfoldable pub tape : List ℕ → Meaning
 tape memory = if in_order memory then ordered_tape memory else nothing
-
--- entry i of a tape stands in a range of its memory
-pub record StandsAt (memory : List ℕ) (i : ℕ) (place : Range ℕ) : Type 0 where
-  pub rises : place.start ≤ place.end
-  pub within : place.end ≤ length memory
-  pub stands : entry (tape memory) i ≡ Some (text (part place.start (place.end - place.start) memory))
 
 -- the memory with an entry written behind the last one, which ends at `end`, then where it ends, then how many entries there are
 abbrev pub entry_put : ℕ → ℕ → List ℕ → List ℕ → List ℕ

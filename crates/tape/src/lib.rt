@@ -4,6 +4,7 @@ mod blanking;
 mod checking;
 mod copying;
 mod extent;
+mod finding;
 mod judging;
 mod lines;
 mod tape;

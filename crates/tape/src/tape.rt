@@ -1,18 +1,16 @@
-ghost use Rattle.std.specs.Prelude.{◌≡◌, [], refl, IfOk, OnErr, IfErr, None};
-ghost use Rattle.refusal.specs.Refusals.{fault};
-ghost use Rattle.refusal.specs.declared.refusal.Refusal.TheVariants.{NoEntry};
-ghost use Rattle.roll.specs.Roll.{entry};
-ghost use Rattle.tape.specs.Tape.{tape, tape_put, StandsAt};
+ghost use Rattle.std.specs.Prelude.{◌≡◌, [], refl};
+ghost use Rattle.roll.specs.Giving.{Finds};
+ghost use Rattle.tape.specs.Tape.{tape, tape_put};
 ghost use Rattle.tape.specs.TapeLife.{TapeLives, TapeRests};
 ghost use Rattle.tape.specs.TapeLaws.{tape_lawful};
 
 use crate::extent::Extent;
-use crate::judging::{MOST, begin_of, end_of, judge, word};
+use crate::finding::entry_part;
+use crate::judging::{MOST, judge, word};
 use crate::writing::write_entry;
-use roll::Roll;
+use roll::{FLOOR, Roll, give};
 use std::marker::Model;
-use std::ops::Range;
-use tinyjambu::{Fault, Refusal, Wipe};
+use tinyjambu::{Fault, Refusal};
 
 // A roll on given memory, which it owns while it stands.
 #[derive(Drop)]
@@ -33,9 +31,6 @@ impl Model for Tape {
 
     ghost invariant = { λ t. t.extent ≡ judged t.memory.items };
 }
-
-// The floor number of a bottom.
-const FLOOR: u32 = 0;
 
 // Every entry is shorter than this.
 const BOUND: u32 = 4097;
@@ -59,16 +54,14 @@ impl Tape {
         memory
     }
 
-    // Where the bytes of an entry stand, or refusal 8.
-    fn place(&self, number: u32) -> Result<Range<usize>, Fault>
-        ensures found { IfOk result (StandsAt self.now.items number) }
-        ensures missing { OnErr result (entry (tape self.now.items) number ≡ None) }
-        ensures refusal { IfErr result (λ f. f ≡ fault NoEntry 0 number) }
+    // The bytes of an entry, or refusal 8.
+    fn part(&self, number: u32) -> Result<&[u8], Fault>
+        ensures { Finds (tape self.now.items) number result }
     {
         if number >= self.count() {
             return Err(Refusal::NoEntry.at(FLOOR, number));
         }
-        Ok(begin_of(&self.memory, number)..end_of(&self.memory, number))
+        Ok(entry_part(&self.memory, number))
     }
 }
 
@@ -125,7 +118,7 @@ impl Roll for Tape {
     }
 
     fn length(&self, entry: u32) -> Result<usize, Fault> {
-        Ok(self.place(entry)?.len())
+        Ok(self.part(entry)?.len())
     }
 
     fn append(&mut self, text: &[u8]) -> Result<u32, Fault> {
@@ -148,14 +141,6 @@ impl Roll for Tape {
     }
 
     fn read(&mut self, entry: u32, out: &mut [u8]) -> Result<usize, Fault> {
-        let guard = Wipe { out };
-        let place = self.place(entry)?;
-        let len = place.len();
-        if guard.out.len() < len {
-            return Err(Refusal::OutTooShort.at(FLOOR, entry));
-        }
-        guard.out[0..len].copy_from_slice(&self.memory[place]);
-        guard.keep();
-        Ok(len)
+        give(self.part(entry), entry, out)
     }
 }
