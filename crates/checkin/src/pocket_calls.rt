@@ -1,39 +1,36 @@
 use anyhow::ensure;
 use pocket::Pocket;
 use roll::{Answer, Call, hand_in, work};
+use std::fmt;
 
 // The name of the pocket.
 const NAME: u32 = 7;
 
-// What a call is called. (A `Display` would have to stand in the library of rolls, which prints nothing.)
-fn title(call: &Call<'_>) -> &'static str {
-    match call {
-        Call::Append(_) => "append",
-        Call::Read(_) => "read",
-        Call::Length(_) => "length",
-        Call::Name => "name",
-        Call::Floor => "floor",
-        Call::Bound => "bound",
-        Call::Space => "space",
-        Call::Count => "count",
-        Call::Charge(_) => "charge",
-    }
-}
+// A call and its answer, which print on one line.
+#[derive(Clone, Copy)]
+struct Line<'a>(Call<'a>, Answer);
 
-// Prints a call and its answer on one line.
-fn print_answer(rt: &HostRuntime, call: &Call<'_>, answer: &Answer) -> anyhow::Result<()> {
-    let title = title(call);
-    match answer {
-        Answer::Appended(Ok(entry)) => println!(rt; "pocket: {title}: entry {entry}")?,
-        Answer::Read(Ok(len)) | Answer::Length(Ok(len)) => println!(rt;
-            "pocket: {title}: {len} bytes"
-        )?,
-        Answer::Number(n) => println!(rt; "pocket: {title}: {n}")?,
-        Answer::Appended(Err(fault)) | Answer::Read(Err(fault)) | Answer::Length(Err(fault)) => {
-            println!(rt; "pocket: {title}: {fault}")?
-        },
+impl fmt::Display for Line<'_> {
+    fn fmt<W: fmt::Write>(&self, f: &mut fmt::Formatter<W>) -> fmt::Result {
+        let title = match self.0 {
+            Call::Append(_) => "append",
+            Call::Read(_) => "read",
+            Call::Length(_) => "length",
+            Call::Name => "name",
+            Call::Floor => "floor",
+            Call::Bound => "bound",
+            Call::Space => "space",
+            Call::Count => "count",
+            Call::Charge(_) => "charge",
+        };
+        match self.1 {
+            Answer::Appended(Ok(entry)) => write!(f, "{title}: entry {entry}"),
+            Answer::Read(Ok(len)) | Answer::Length(Ok(len)) => write!(f, "{title}: {len} bytes"),
+            Answer::Number(n) => write!(f, "{title}: {n}"),
+            Answer::Appended(Err(fault)) | Answer::Read(Err(fault)) | Answer::Length(Err(fault)) =>
+                write!(f, "{title}: {fault}"),
+        }
     }
-    Ok(())
 }
 
 // Works a list of calls on a pocket, which a sealed revision fills in the end, and prints the answers.
@@ -64,7 +61,7 @@ pub(crate) fn work_pocket(rt: &HostRuntime, sealed: &[u8]) -> anyhow::Result<()>
     let mut texts = Vec::new(heap);
     work(&mut pocket, &calls, &mut answers, &mut texts)?;
     for (call, answer) in calls.iter().zip(&answers) {
-        print_answer(rt, call, answer)?;
+        println!(rt; "pocket: {}", Line(*call, *answer))?;
     }
     ensure!(
         texts.as_slice() == sealed,

@@ -1,26 +1,18 @@
 use crate::answer::refusal_of;
-use crate::common::{BYTES, NONCE, NONCE_WORDS, zero_engine};
+use crate::common::{BYTES, NONCE_WORDS, sealed, zero_engine};
 use crate::session_use::{Halves, in_pieces};
 use std::process::Abort;
-use tinyjambu::{Session, seal, seal_pieces};
+use tinyjambu::{Session, seal_pieces};
 
 // The first 9 of the bytes, as data, and the first 13, as text, sealed at once.
 fn whole(rt: &impl Abort) -> [u8; 21] {
-    let mut out = [0u8; 21];
-    let answer = seal(
-        &mut zero_engine(),
-        &NONCE,
-        &BYTES[0..9],
-        &BYTES[0..13],
-        &mut out,
-    );
-    assert_eq!(rt; refusal_of(answer), None);
-    out
+    sealed(rt, &mut zero_engine(), &BYTES[0..9], &BYTES[0..13])
 }
 
 // Bytes cut in two.
-fn halves(bytes: &[u8], at: usize) -> Halves<'_> {
-    let (first, second) = bytes.split_at(at.min(bytes.len()));
+fn halves<'a>(rt: &impl Abort, bytes: &'a [u8], at: usize) -> Halves<'a> {
+    assert!(rt; at <= bytes.len());
+    let (first, second) = bytes.split_at(at);
     Halves { first, second }
 }
 
@@ -30,8 +22,8 @@ fn a_session_seals_any_halves_as_the_whole(rt: HostRuntime) {
     for ad in 0..10usize {
         for text in 0..14usize {
             let mut out = [0u8; 21];
-            let data = halves(&BYTES[0..9], ad);
-            let texts = halves(&BYTES[0..13], text);
+            let data = halves(&rt, &BYTES[0..9], ad);
+            let texts = halves(&rt, &BYTES[0..13], text);
             assert_eq!(rt;
                 refusal_of(in_pieces(zero_engine(), NONCE_WORDS, data, texts, &mut out)),
                 None

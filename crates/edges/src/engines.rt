@@ -1,17 +1,7 @@
 use crate::answer::refusal_of;
-use crate::common::{BYTES, NONCE};
+use crate::common::{BYTES, NONCE, sealed};
 use std::process::Abort;
-use tinyjambu::{BitEngine, Engine, Key, WordEngine, open, seal};
-
-// What an engine seals a text to.
-fn sealed_by<E: Engine>(rt: &impl Abort, engine: &mut E, text: &[u8]) -> [u8; 24] {
-    let mut out = [0u8; 24];
-    assert_eq!(rt;
-        refusal_of(seal(engine, &NONCE, b"data", text, &mut out)),
-        None
-    );
-    out
-}
+use tinyjambu::{BitEngine, Engine, Key, WordEngine, open};
 
 // Checks that an engine opens sealed bytes to a text.
 fn opens<E: Engine>(rt: &impl Abort, engine: &mut E, sealed: &[u8], text: &[u8]) {
@@ -29,8 +19,8 @@ fn engines_agree(rt: &impl Abort, key: Key, text: &[u8]) {
     assert!(rt; text.len() <= 16);
     let mut bits = BitEngine::new(key);
     let mut words = WordEngine::new(key);
-    let by_bits = sealed_by(rt, &mut bits, text);
-    assert_eq!(rt; by_bits, sealed_by(rt, &mut words, text));
+    let by_bits: [u8; 24] = sealed(rt, &mut bits, b"data", text);
+    assert_eq!(rt; by_bits, sealed(rt, &mut words, b"data", text));
     let sealed = &by_bits[0..text.len() + 8];
     opens(rt, &mut bits, sealed, text);
     opens(rt, &mut words, sealed, text);

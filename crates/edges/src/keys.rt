@@ -1,14 +1,11 @@
 use crate::answer::refusal_of;
-use crate::common::{BYTES, NONCE};
+use crate::common::{BYTES, sealed};
 use std::process::Abort;
-use tinyjambu::{Key, Refusal, WordEngine, seal};
+use tinyjambu::{Key, Refusal, WordEngine};
 
 // What five bytes are sealed to under a key.
 fn sealed_under(rt: &impl Abort, key: Key) -> [u8; 13] {
-    let mut out = [0u8; 13];
-    let answer = seal(&mut WordEngine::new(key), &NONCE, &[], b"right", &mut out);
-    assert_eq!(rt; refusal_of(answer), None);
-    out
+    sealed(rt, &mut WordEngine::new(key), &[], b"right")
 }
 
 #[test]

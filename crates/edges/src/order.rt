@@ -4,19 +4,11 @@ use std::process::Abort;
 use std::test::Fail;
 use tinyjambu::{Refusal, Session, open, seal, seal_pieces};
 
+// The length of the longest sealed form here, of a text of 65537 bytes.
 const ALL: usize = 65545;
 
-// The first refusal of those in order whose flag says that something is wrong.
-fn first_wrong(order: &[(bool, Refusal)]) -> Option<Refusal> {
-    order
-        .iter()
-        .find(|(wrong, _)| *wrong)
-        .map(|(_, refusal)| *refusal)
-}
-
 // Checks what sealing answers to lengths that are wrong where a flag says so.
-fn sealing(rt: &impl Abort, all: &[u8], out: &mut [u8], wrong: [bool; 4]) {
-    assert!(rt; all.len() == ALL && out.len() == ALL);
+fn sealing(rt: &impl Abort, all: &[u8; ALL], out: &mut [u8; ALL], wrong: [bool; 4]) {
     let [nonce, ad, text, room] = wrong;
     let nonce_bytes = &all[0..if nonce { 11 } else { 12 }];
     let ad_bytes = &all[0..if ad { 65537 } else { 3 }];
@@ -29,19 +21,18 @@ fn sealing(rt: &impl Abort, all: &[u8], out: &mut [u8], wrong: [bool; 4]) {
         text_bytes,
         &mut out[0..room_len],
     );
-    let order = [
-        (nonce, Refusal::NonceLength),
-        (ad, Refusal::DataTooLong),
-        (text, Refusal::TextTooLong),
-        (room, Refusal::OutTooShort),
-    ];
-    assert_eq!(rt; refusal_of(answer), first_wrong(&order));
+    let refusal = nonce
+        .then_some(Refusal::NonceLength)
+        .or(ad.then_some(Refusal::DataTooLong))
+        .or(text.then_some(Refusal::TextTooLong))
+        .or(room.then_some(Refusal::OutTooShort));
+    assert_eq!(rt; refusal_of(answer), refusal);
 }
 
 #[test]
-fn sealing_refuses_in_order(rt: HostRuntime) -> Result<(), Fail> {
-    let all = vec![in rt.alloc(); 0u8; ALL]?;
-    let mut out = vec![in rt.alloc(); 0u8; ALL]?;
+fn sealing_refuses_in_order(rt: HostRuntime) {
+    let all = [0u8; ALL];
+    let mut out = [0u8; ALL];
     for nonce in [false, true] {
         for ad in [false, true] {
             for text in [false, true] {
@@ -51,12 +42,11 @@ fn sealing_refuses_in_order(rt: HostRuntime) -> Result<(), Fail> {
             }
         }
     }
-    Ok(())
 }
 
 // Checks what opening so many zeros answers, with lengths that are wrong where a flag says so. No text seals to the zeros.
-fn opening(rt: &impl Abort, all: &[u8], out: &mut [u8], sealed: usize, wrong: [bool; 3]) {
-    assert!(rt; all.len() == ALL && out.len() == ALL && sealed <= ALL);
+fn opening(rt: &impl Abort, all: &[u8; ALL], out: &mut [u8; ALL], sealed: usize, wrong: [bool; 3]) {
+    assert!(rt; sealed <= ALL);
     let [nonce, ad, room] = wrong;
     let nonce_bytes = &all[0..if nonce { 13 } else { 12 }];
     let ad_bytes = &all[0..if ad { 65537 } else { 3 }];
@@ -69,21 +59,20 @@ fn opening(rt: &impl Abort, all: &[u8], out: &mut [u8], sealed: usize, wrong: [b
         &all[0..sealed],
         &mut out[0..room_len],
     );
-    let order = [
-        (nonce, Refusal::NonceLength),
-        (ad, Refusal::DataTooLong),
-        (text > 65536, Refusal::TextTooLong),
-        (sealed < 8, Refusal::SealedTooShort),
-        (room, Refusal::OutTooShort),
-        (true, Refusal::Broken),
-    ];
-    assert_eq!(rt; refusal_of(answer), first_wrong(&order));
+    let refusal = nonce
+        .then_some(Refusal::NonceLength)
+        .or(ad.then_some(Refusal::DataTooLong))
+        .or((text > 65536).then_some(Refusal::TextTooLong))
+        .or((sealed < 8).then_some(Refusal::SealedTooShort))
+        .or(room.then_some(Refusal::OutTooShort))
+        .unwrap_or(Refusal::Broken);
+    assert_eq!(rt; refusal_of(answer), Some(refusal));
 }
 
 #[test]
-fn opening_refuses_in_order(rt: HostRuntime) -> Result<(), Fail> {
-    let all = vec![in rt.alloc(); 0u8; ALL]?;
-    let mut out = vec![in rt.alloc(); 0u8; ALL]?;
+fn opening_refuses_in_order(rt: HostRuntime) {
+    let all = [0u8; ALL];
+    let mut out = [0u8; ALL];
     for sealed in [7, 13, 65545] {
         for nonce in [false, true] {
             for ad in [false, true] {
@@ -93,12 +82,10 @@ fn opening_refuses_in_order(rt: HostRuntime) -> Result<(), Fail> {
             }
         }
     }
-    Ok(())
 }
 
 // Checks what sealing in pieces answers to lengths that are wrong where a flag says so.
-fn sealing_pieces(rt: &impl Abort, all: &[u8], out: &mut [u8], wrong: [bool; 3]) {
-    assert!(rt; all.len() == ALL && out.len() == ALL);
+fn sealing_pieces(rt: &impl Abort, all: &[u8; ALL], out: &mut [u8; ALL], wrong: [bool; 3]) {
     let [ad, text, room] = wrong;
     let ad_bytes = &all[0..if ad { 65536 } else { 3 }];
     let text_bytes = &all[0..if text { 65536 } else { 4 }];
@@ -111,18 +98,17 @@ fn sealing_pieces(rt: &impl Abort, all: &[u8], out: &mut [u8], wrong: [bool; 3])
         &[one, text_bytes],
         &mut out[0..room_len],
     );
-    let order = [
-        (ad, Refusal::DataTooLong),
-        (text, Refusal::TextTooLong),
-        (room, Refusal::OutTooShort),
-    ];
-    assert_eq!(rt; refusal_of(answer), first_wrong(&order));
+    let refusal = ad
+        .then_some(Refusal::DataTooLong)
+        .or(text.then_some(Refusal::TextTooLong))
+        .or(room.then_some(Refusal::OutTooShort));
+    assert_eq!(rt; refusal_of(answer), refusal);
 }
 
 #[test]
-fn sealing_pieces_refuses_in_order(rt: HostRuntime) -> Result<(), Fail> {
-    let all = vec![in rt.alloc(); 0u8; ALL]?;
-    let mut out = vec![in rt.alloc(); 0u8; ALL]?;
+fn sealing_pieces_refuses_in_order(rt: HostRuntime) {
+    let all = [0u8; ALL];
+    let mut out = [0u8; ALL];
     for ad in [false, true] {
         for text in [false, true] {
             for room in [false, true] {
@@ -130,7 +116,6 @@ fn sealing_pieces_refuses_in_order(rt: HostRuntime) -> Result<(), Fail> {
             }
         }
     }
-    Ok(())
 }
 
 #[test]

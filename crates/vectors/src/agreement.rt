@@ -1,5 +1,5 @@
-ghost use Rattle.std.specs.Prelude.{◌≡◌, ◌↔◌, IsTrue, IfOk, length, Some, Ok};
-ghost use Rattle.tinyjambu.specs.Mode.{seal, opened};
+ghost use Rattle.std.specs.Prelude.{◌≡◌, ◌↔◌, IsTrue, IfOk, length, Ok};
+ghost use Rattle.vectors.specs.Cases.{SealsTo, OpensTo};
 
 use crate::case::Case;
 use std::alloc::{AllocError, Global};
@@ -14,7 +14,7 @@ fn gave(answer: Result<usize, Fault>, out: &[u8], bytes: &[u8]) -> bool
 
 // Whether sealing the text of a case gives exactly its sealed bytes. What the engine writes is left in `out`, which is as long as those.
 fn seals<E: Engine>(engine: &mut E, case: &Case, out: &mut [u8]) -> bool
-    ensures meant { IsTrue result → seal (E.key engine.old) case.now.nonce.items case.now.ad.items case.now.text.items ≡ case.now.sealed.items }
+    ensures meant { IsTrue result → SealsTo (E.key engine.old) case.now }
     ensures same { E.key engine.new ≡ E.key engine.old }
 {
     let answer = tinyjambu::seal(engine, &case.nonce, &case.ad, &case.text, out);
@@ -23,7 +23,7 @@ fn seals<E: Engine>(engine: &mut E, case: &Case, out: &mut [u8]) -> bool
 
 // Whether opening the sealed bytes of a case gives exactly its text. What the engine writes is left in `out`, which is as long as that.
 fn opens<E: Engine>(engine: &mut E, case: &Case, out: &mut [u8]) -> bool
-    ensures meant { IsTrue result → opened (E.key engine.old) case.now.nonce.items case.now.ad.items case.now.sealed.items ≡ Some case.now.text.items }
+    ensures meant { IsTrue result → OpensTo (E.key engine.old) case.now }
     ensures same { E.key engine.new ≡ E.key engine.old }
 {
     let answer = tinyjambu::open(engine, &case.nonce, &case.ad, &case.sealed, out);
@@ -36,8 +36,8 @@ pub(crate) fn agrees<E: Engine>(
     engine: &mut E,
     case: &Case,
 ) -> Result<bool, AllocError>
-    ensures sealed { IfOk result (λ b. IsTrue b → seal (E.key engine.old) case.now.nonce.items case.now.ad.items case.now.text.items ≡ case.now.sealed.items) }
-    ensures opened { IfOk result (λ b. IsTrue b → opened (E.key engine.old) case.now.nonce.items case.now.ad.items case.now.sealed.items ≡ Some case.now.text.items) }
+    ensures sealed { IfOk result (λ b. IsTrue b → SealsTo (E.key engine.old) case.now) }
+    ensures opened { IfOk result (λ b. IsTrue b → OpensTo (E.key engine.old) case.now) }
 {
     let mut sealed = vec![in heap; 0u8; case.sealed.len()]?;
     let mut text = vec![in heap; 0u8; case.text.len()]?;

@@ -1,5 +1,5 @@
-ghost use Rattle.std.specs.Prelude.{◌≡◌, OnOk, Some};
-ghost use Rattle.tinyjambu.specs.Mode.{seal, opened};
+ghost use Rattle.std.specs.Prelude.{OnOk};
+ghost use Rattle.vectors.specs.Cases.{SealsTo, OpensTo};
 
 use crate::agreement::agrees;
 use crate::case::Case;
@@ -9,8 +9,8 @@ use tinyjambu::{BitEngine, Key, KeySize, WordEngine};
 
 // Runs a case with both engines.
 pub(crate) fn judge(heap: Global, size: KeySize, case: &Case) -> Result<(), CaseFault>
-    ensures sealed { OnOk result (seal case.now.key.items case.now.nonce.items case.now.ad.items case.now.text.items ≡ case.now.sealed.items) }
-    ensures opened { OnOk result (opened case.now.key.items case.now.nonce.items case.now.ad.items case.now.sealed.items ≡ Some case.now.text.items) }
+    ensures sealed { OnOk result (SealsTo case.now.key.items case.now) }
+    ensures opened { OnOk result (OpensTo case.now.key.items case.now) }
 {
     if KeySize::try_from(case.key.len()) != Ok(size) {
         return Err(CaseFault::Malformed);
