@@ -1,12 +1,12 @@
 -- The entries of a pocket, by where they begin, and one more.
 use Rattle.std.proofs.Common.{◌≡◌, ℕ, zero, suc, ◌+◌, ◌-◌, ◌<◌, ◌≤◌, List, [], ◌∷◌, ◌++◌, length, get_or, take, drop, drop_of_length-le, Some, None, Err, sym, refl, ap, ◌∙◌, ap₂, arith}
 use Rattle.std.proofs.lemmas.List.{take_at, length-take-le}
-use Rattle.std.proofs.lemmas.List.Sums.{sum_by-cons, sum_by_push}
+use Rattle.std.proofs.lemmas.List.Sums.{sum_by-cons, sum_by_push, sum_by_more_le}
 use Rattle.refusal.specs.declared.refusal.Refusal.TheVariants.{NoSpace}
 use Rattle.roll.specs.Memory.{part, written}
 use Rattle.roll.specs.Roll.{Meaning, Entry, text, count, entry, first, append_answer, append_after, grown}
 use Rattle.refusal.specs.Refusals.{fault}
-use Rattle.roll.proofs.Memories.{same_below, written_there}
+use Rattle.roll.proofs.Memories.{same_below, written_there, part_length}
 use Rattle.roll.proofs.Rolls.{Takes, taken, after_is, too_dear}
 use Rattle.pocket.specs.Pocket.{paged, paged_all, entries_at, pocket_charge, pocket}
 use Rattle.pocket.specs.PocketLaws.{entries-count, charge_is, paged_many}
@@ -28,6 +28,14 @@ module _ (name : ℕ) (bytes ns : List ℕ) where
   -- and of no other
   pub pocket_no_entry : (i : ℕ) → length ns ≤ i → entry (pocket name bytes ns) i ≡ None
   pocket_no_entry i l = ap first (drop_of_length-le (entries_at bytes 0 ns) (omega (arith, entries-count bytes 0 ns)))
+
+  -- an entry ends within the bytes
+  pub stored_within : (i : ℕ) → i < length ns → paged_all ns ≤ length bytes → paged_all (take i ns) + get_or ns i 0 ≤ length bytes
+  stored_within i l fits = omega (arith, sum_by_more_le paged ns i 0 l)
+
+  -- it is as long as its length says
+  pub stored-length : (i : ℕ) → i < length ns → paged_all ns ≤ length bytes → length (part (paged_all (take i ns)) (get_or ns i 0) bytes) ≡ get_or ns i 0
+  stored-length i l fits = part_length (paged_all (take i ns)) (get_or ns i 0) bytes (stored_within i l fits)
 
 -- the entries below u are the same
 entries-same : (bytes next : List ℕ) (u at : ℕ) (ns : List ℕ) → take u next ≡ take u bytes → at + paged_all ns ≤ u → entries_at next at ns ≡ entries_at bytes at ns

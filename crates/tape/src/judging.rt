@@ -4,21 +4,17 @@ ghost use Rattle.tape.specs.Judged.{judgement};
 
 use crate::extent::Extent;
 use byteorder::{ByteOrder, LittleEndian};
+use roll::{LONGEST, MOST};
 use tinyjambu::Refusal;
 
 // The length of the header, behind which the first entry begins.
 pub(crate) const HEADER: usize = 16;
 
 // The longest memory of a tape.
-const LONGEST: usize = 65536;
+const LONGEST_MEMORY: usize = 65536;
 
-// The most entries of a roll.
-pub(crate) const MOST: u32 = 4095;
-
-// The longest entry.
-const LONGEST_ENTRY: usize = 4096;
-
-// The number in the four bytes from `at` on, the least byte first.
+// The number in the four bytes from `at` on, the least byte first. (The cipher has the like for itself: one for both would be public,
+// and no public function asks anything of its caller.)
 pub(crate) fn word(memory: &[u8], at: usize) -> u32
     requires { at + 4 ≤ length memory.now }
     ensures { result ≡ word at memory.now }
@@ -50,7 +46,7 @@ pub(crate) fn begin_of(memory: &[u8], entry: u32) -> usize
 pub(crate) fn is_tape_length(len: usize) -> bool
     ensures { result ≡ tape_length len }
 {
-    (HEADER..=LONGEST).contains(&len)
+    (HEADER..=LONGEST_MEMORY).contains(&len)
 }
 
 // Whether the header of a memory that is long enough is in order.
@@ -70,7 +66,7 @@ fn header_ordered(memory: &[u8]) -> bool
 fn entry_ordered(begin: usize, end: usize) -> bool
     ensures { result ≡ (nat_le begin end && nat_le end (begin + 4096)) }
 {
-    begin <= end && end - begin <= LONGEST_ENTRY
+    begin <= end && end - begin <= LONGEST
 }
 
 // Judges a memory: its extent if it is in order, or else whether its length or what it holds is amiss.

@@ -6,9 +6,9 @@ ghost use Rattle.tape.specs.TapeLaws.{tape_lawful};
 
 use crate::extent::Extent;
 use crate::finding::entry_part;
-use crate::judging::{MOST, judge, word};
+use crate::judging::{judge, word};
 use crate::writing::write_entry;
-use roll::{FLOOR, Roll, give};
+use roll::{FLOOR, MOST, Roll, give};
 use std::marker::Model;
 use tinyjambu::{Fault, Refusal};
 

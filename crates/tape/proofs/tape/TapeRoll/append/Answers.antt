@@ -1,6 +1,5 @@
-use Rattle.std.proofs.Common.{◌≡◌, ℕ, ◌+◌, ◌<◌, ◌≤◌, true, List, length, Ok, sym, refl, ap, ◌∙◌, arith}
+use Rattle.std.proofs.Common.{◌≡◌, ℕ, ◌+◌, ◌<◌, ◌≤◌, List, length, Ok, sym, refl, ap, ◌∙◌, arith}
 use Rattle.std.proofs.lemmas.List.{with_items_is}
-use Rattle.std.proofs.lemmas.Bool.{both_ways}
 use Rattle.refusal.specs.declared.refusal.Refusal.TheVariants.{EntryTooLong, RollFull, NoSpace}
 use Rattle.roll.specs.Roll.{count}
 use Rattle.roll.proofs.Rolls.{too_long, too_many, too_dear}
@@ -16,7 +15,7 @@ returns-in_default c =
     let known = c.self.invariant ∙ ap (λ v. judged v.items) c.self.view_is in
     let bound = ap (λ m. m.bound) (opened_nothing memory _ known c.in_default.is) in
     let d = tape_refused memory t EntryTooLong _ _ c.at.ensures c.count-entry.ensures (too_long (tape memory) t (omega (arith, bound))) in
-    record { answer = d.0; after = d.1; stored = d.1; floors = refl; bytes = refl; refused = λ _. refl }
+    record { answer = d.0; after = d.1; stored = d.1; floors = refl; bytes = refl; refused = refl }
 
 pub returns-then-len : goal.returns-then-len
 returns-then-len c =
@@ -24,7 +23,7 @@ returns-then-len c =
     let t : List ℕ = c.args.text.now in
     let a = too_long (tape memory) t (omega (arith, bound-most memory, c.if-len.true)) in
     let d = tape_refused memory t EntryTooLong _ _ c.at-then-len.ensures c.count-entry.ensures a in
-    record { answer = d.0; after = d.1; stored = d.1; floors = refl; bytes = refl; refused = λ _. refl }
+    record { answer = d.0; after = d.1; stored = d.1; floors = refl; bytes = refl; refused = refl }
 
 pub returns-then-extent-ge-MOST : goal.returns-then-extent-ge-MOST
 returns-then-extent-ge-MOST c =
@@ -36,7 +35,7 @@ returns-then-extent-ge-MOST c =
     let n = ap count (tape_is memory o.0) ∙ tape_count memory o.0 in
     let a = too_many (tape memory) t (omega (arith, bound, c.if-len.false)) (omega (arith, n, ap (λ x. x.count) o.1, c.if-extent-ge-MOST.true)) in
     let d = tape_refused memory t RollFull _ _ c.at-then-extent-ge-MOST.ensures c.count-entry.ensures a in
-    record { answer = d.0; after = d.1; stored = d.1; floors = refl; bytes = refl; refused = λ _. refl }
+    record { answer = d.0; after = d.1; stored = d.1; floors = refl; bytes = refl; refused = refl }
 
 pub returns-then-space-len : goal.returns-then-space-len
 returns-then-space-len c =
@@ -51,7 +50,7 @@ returns-then-space-len c =
     too_dear (tape memory) t short (omega (arith, n, ap (λ x. x.count) o.1))
     (omega (arith, charge_under memory (length t) short, c.space.ensures, c.if-space-len.true)) in
     let d = tape_refused memory t NoSpace _ _ c.at-then-space-len.ensures c.count-entry.ensures a in
-    record { answer = d.0; after = d.1; stored = d.1; floors = refl; bytes = refl; refused = λ _. refl }
+    record { answer = d.0; after = d.1; stored = d.1; floors = refl; bytes = refl; refused = refl }
 
 pub write_entry-requires : goal.write_entry-requires
 write_entry-requires c =
@@ -93,4 +92,4 @@ returns c =
     let e = append_taken memory t x o.0 o.1 c.if-len.false c.if-extent-ge-MOST.false cheap _ wrote in
     let grew = append_means memory t x o.0 o.1 c.if-len.false c.if-extent-ge-MOST.false cheap _ wrote in
     let put = append_put memory t x o.0 o.1 c.if-len.false c.if-extent-ge-MOST.false cheap _ wrote in
-    record { answer = ap Ok c.count-entry.ensures ∙ sym e; after = grew; stored = grew; floors = refl; bytes = put; refused = λ z. absurd (both_ways true z refl) }
+    record { answer = ap Ok c.count-entry.ensures ∙ sym e; after = grew; stored = grew; floors = refl; bytes = put; refused = tt }
