@@ -2,11 +2,12 @@ use crate::answer::refusal_of;
 use crate::common::{BYTES, NONCE_WORDS, sealed, zero_engine};
 use crate::session_use::{Halves, in_pieces};
 use std::process::Abort;
-use tinyjambu::{Session, seal_pieces};
+use std::test::Fail;
+use tinyjambu::{Fault, Session, seal_pieces};
 
 // The first 9 of the bytes, as data, and the first 13, as text, sealed at once.
-fn whole(rt: &impl Abort) -> [u8; 21] {
-    sealed(rt, &mut zero_engine(), &BYTES[0..9], &BYTES[0..13])
+fn whole() -> Result<[u8; 21], Fault> {
+    sealed(&mut zero_engine(), &BYTES[0..9], &BYTES[0..13])
 }
 
 // Bytes cut in two.
@@ -17,8 +18,8 @@ fn halves<'a>(rt: &impl Abort, bytes: &'a [u8], at: usize) -> Halves<'a> {
 }
 
 #[test]
-fn a_session_seals_any_halves_as_the_whole(rt: HostRuntime) {
-    let whole = whole(&rt);
+fn a_session_seals_any_halves_as_the_whole(rt: HostRuntime) -> Result<(), Fail> {
+    let whole = whole()?;
     for ad in 0..10usize {
         for text in 0..14usize {
             let mut out = [0u8; 21];
@@ -31,6 +32,7 @@ fn a_session_seals_any_halves_as_the_whole(rt: HostRuntime) {
             assert_eq!(rt; out, whole);
         }
     }
+    Ok(())
 }
 
 // Seals the message byte by byte.
@@ -48,17 +50,18 @@ fn bytewise(rt: &impl Abort, out: &mut [u8; 13]) -> [u8; 8] {
 }
 
 #[test]
-fn a_session_seals_bytes_as_the_whole(rt: HostRuntime) {
-    let whole = whole(&rt);
+fn a_session_seals_bytes_as_the_whole(rt: HostRuntime) -> Result<(), Fail> {
+    let whole = whole()?;
     let mut out = [0u8; 13];
     let tag = bytewise(&rt, &mut out);
     assert!(rt; &out[0..13] == &whole[0..13]);
     assert!(rt; &tag[0..8] == &whole[13..21]);
+    Ok(())
 }
 
 #[test]
-fn pieces_seal_as_the_whole(rt: HostRuntime) {
-    let whole = whole(&rt);
+fn pieces_seal_as_the_whole(rt: HostRuntime) -> Result<(), Fail> {
+    let whole = whole()?;
     for first in 0..14usize {
         for second in first..14usize {
             let mut out = [0u8; 21];
@@ -71,4 +74,5 @@ fn pieces_seal_as_the_whole(rt: HostRuntime) {
             assert_eq!(rt; out, whole);
         }
     }
+    Ok(())
 }

@@ -1,60 +1,58 @@
 use crate::answer::refusal_of;
 use crate::common::{NONCE, zero_engine};
-use std::process::Abort;
+use std::alloc::{AllocError, Global};
 use std::test::Fail;
 use tinyjambu::{Refusal, open, seal};
 
-// Checks what sealing a text of so many bytes answers, and opening what was sealed. It comes back unless it is refused.
-fn try_text(
-    rt: &(impl Abort + AllocGlobal),
-    len: usize,
-    refusal: Option<Refusal>,
-) -> Result<(), Fail> {
-    assert!(rt; len <= 65537);
-    let text = vec![in rt.alloc(); 7u8; len]?;
-    let mut out = vec![in rt.alloc(); 0u8; len + 8]?;
-    let answer = seal(&mut zero_engine(), &NONCE, &[], &text, &mut out);
-    assert_eq!(rt; refusal_of(answer), refusal);
-    let mut back = vec![in rt.alloc(); 0u8; len]?;
-    let answer = open(&mut zero_engine(), &NONCE, &[], &out, &mut back);
-    assert_eq!(rt; refusal_of(answer), refusal);
-    assert_eq!(rt; back == text, refusal.is_none());
-    Ok(())
+// What sealing a text of so many bytes answers, and opening what was sealed, and whether the text came back.
+fn try_text(heap: Global, len: u32) -> Result<([Option<Refusal>; 2], bool), AllocError> {
+    let len = len as usize;
+    let text = vec![in heap; 7u8; len]?;
+    let mut out = vec![in heap; 0u8; len + 8]?;
+    let sealing = refusal_of(seal(&mut zero_engine(), &NONCE, &[], &text, &mut out));
+    let mut back = vec![in heap; 0u8; len]?;
+    let opening = refusal_of(open(&mut zero_engine(), &NONCE, &[], &out, &mut back));
+    Ok(([sealing, opening], back == text))
 }
 
-// Checks what sealing and opening with so many bytes of data answer.
-fn try_data(
-    rt: &(impl Abort + AllocGlobal),
-    len: usize,
-    refusal: Option<Refusal>,
-) -> Result<(), Fail> {
-    let ad = vec![in rt.alloc(); 7u8; len]?;
+// What sealing and opening with so many bytes of data answer.
+fn try_data(heap: Global, len: usize) -> Result<[Option<Refusal>; 2], AllocError> {
+    let ad = vec![in heap; 7u8; len]?;
     let mut out = [0u8; 8];
-    let answer = seal(&mut zero_engine(), &NONCE, &ad, &[], &mut out);
-    assert_eq!(rt; refusal_of(answer), refusal);
-    let answer = open(&mut zero_engine(), &NONCE, &ad, &out, &mut []);
-    assert_eq!(rt; refusal_of(answer), refusal);
-    Ok(())
+    let sealing = refusal_of(seal(&mut zero_engine(), &NONCE, &ad, &[], &mut out));
+    let opening = refusal_of(open(&mut zero_engine(), &NONCE, &ad, &out, &mut []));
+    Ok([sealing, opening])
 }
 
 #[test]
 fn text_of_65536_bytes_is_taken(rt: HostRuntime) -> Result<(), Fail> {
-    try_text(&rt, 65536, None)
+    let (answers, back) = try_text(rt.alloc(), 65536)?;
+    assert_eq!(rt; answers, [None; 2]);
+    assert!(rt; back);
+    Ok(())
 }
 
 #[test]
 fn text_of_65537_bytes_is_refused(rt: HostRuntime) -> Result<(), Fail> {
-    try_text(&rt, 65537, Some(Refusal::TextTooLong))
+    let (answers, back) = try_text(rt.alloc(), 65537)?;
+    assert_eq!(rt; answers, [Some(Refusal::TextTooLong); 2]);
+    assert!(rt; !back);
+    Ok(())
 }
 
 #[test]
 fn data_of_65536_bytes_is_taken(rt: HostRuntime) -> Result<(), Fail> {
-    try_data(&rt, 65536, None)
+    assert_eq!(rt; try_data(rt.alloc(), 65536)?, [None; 2]);
+    Ok(())
 }
 
 #[test]
 fn data_of_65537_bytes_is_refused(rt: HostRuntime) -> Result<(), Fail> {
-    try_data(&rt, 65537, Some(Refusal::DataTooLong))
+    assert_eq!(rt;
+        try_data(rt.alloc(), 65537)?,
+        [Some(Refusal::DataTooLong); 2]
+    );
+    Ok(())
 }
 
 #[test]

@@ -51,7 +51,7 @@ fn opening(rt: &impl Abort, all: &[u8; ALL], out: &mut [u8; ALL], sealed: usize,
     let nonce_bytes = &all[0..if nonce { 13 } else { 12 }];
     let ad_bytes = &all[0..if ad { 65537 } else { 3 }];
     let text = sealed.saturating_sub(8);
-    let room_len = text.saturating_sub(if room { 1 } else { 0 });
+    let room_len = text.saturating_sub(usize::from(room));
     let answer = open(
         &mut zero_engine(),
         nonce_bytes,
