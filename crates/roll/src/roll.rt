@@ -1,6 +1,7 @@
 ghost use Rattle.std.specs.Prelude.{◌≡◌, ℕ, List, length, OnErr};
 ghost use Rattle.roll.specs.Roll.{Meaning, Lawful, Put, count, append_answer, append_after, image_after, length_answer, read_answer, read_out};
 ghost use Rattle.roll.specs.Floor.{Layer, piled, sealed};
+ghost use Rattle.roll.specs.Same.{Same};
 
 use tinyjambu::Fault;
 
@@ -74,8 +75,5 @@ pub trait Roll {
     fn read(&mut self, entry: u32, out: &mut [u8]) -> Result<usize, Fault>
         ensures answer { result ≡ read_answer (meaning self.old) entry (length out.old) }
         ensures out { out.new ≡ read_out (meaning self.old) entry out.old }
-        ensures same { meaning self.new ≡ meaning self.old }
-        ensures stored { bottom self.new ≡ bottom self.old }
-        ensures floors { layers self.new ≡ layers self.old }
-        ensures bytes { image self.new ≡ image self.old };
+        ensures same { Same meaning bottom layers image self.old self.new };
 }
