@@ -1,6 +1,9 @@
 -- What a roll answers to a read and to a question for a length, by what stands under the number.
-use Rattle.std.proofs.Common.{◌≡◌, ℕ, zero, suc, ◌<◌, ◌≤◌, if◌then◌else◌, ltb, List, [], ◌∷◌, ◌++◌, length, take, drop, replicate, Some, None, Ok, Err, Option, Result, sym, refl, ap, ◌∙◌, ap₂, arith}
+use Rattle.std.proofs.Common.{◌≡◌, ℕ, zero, suc, ◌+◌, ◌-◌, ◌<◌, ◌≤◌, if◌then◌else◌, ltb, List, [], ◌∷◌, ◌++◌, length, take, drop, replicate, Some, None, Ok, Err, Option, Result, sym, refl, ap, ◌∙◌, ap₂, arith, append_assoc, length-append}
 use lib.ListN.{length-replicate}
+use Rattle.std.proofs.Math.Seq.{take-append-add, take-append_seam, drop-append_seam, take-length}
+use Rattle.std.proofs.lemmas.List.{take-take, take-append-le, take_all}
+use Rattle.std.specs.Result.{result_unwrap_or}
 use Rattle.std.specs.Borrow.{Bor}
 use Rattle.std.proofs.lemmas.Bool.{cond-true, cond-false, lt-ltb, le-ltb}
 use Rattle.refusal.specs.declared.fault.Fault.{Fault}
@@ -9,7 +12,7 @@ use Rattle.roll.specs.Roll.{Meaning, Entry, text, broken, entry_length, Lawful, 
 use Rattle.refusal.specs.Refusals.{fault}
 use Rattle.roll.specs.Giving.{Finds, given_answer}
 use Rattle.roll.specs.Work.{text_at}
-use Rattle.roll.proofs.Rolls.{said, put, none_some, never, entries_fit, read_told}
+use Rattle.roll.proofs.Rolls.{said, put, none_some, never, entries_fit, read_told, read_none}
 
 -- the answer of a length, by the entry
 abbrev pub measured : Meaning → ℕ → Option Entry → Result ℕ Fault
@@ -98,3 +101,30 @@ module _ (m : Meaning) (i : ℕ) (r : Result ℕ Fault) (out : List ℕ) (lawful
       from None e = entry_there m.entries i h e
       from (Some (broken g k)) e = tt
       from (Some (text t)) e = never _ _ _ (sym r-is ∙ p) (read_given m i zeros t e (omega (arith, entries_fit m i (text t) lawful e, long))).0
+
+-- what a read into 4,096 bytes answers and leaves is the text of the entry, or nothing where it is refused
+pub told_there : (m : Meaning) (i : ℕ) (before out : List ℕ) (r : Result ℕ Fault) → Lawful m → length before ≡ 4096 → r ≡ read_answer m i (length before) → out ≡ read_out m i before
+    → (result_unwrap_or r 0 ≤ 4096) × (take (result_unwrap_or r 0) out ≡ text_at (entry m i))
+told_there m i before out (Ok n) lawful p r-is out-is =
+    let told = read_told m i n before lawful p (sym r-is) in
+    (told.0, ap (take n) out-is ∙ told.1)
+told_there m i before out (Err f) lawful p r-is out-is = (omega arith, sym (read_none m i (length before) f lawful p (sym r-is)))
+
+-- bytes behind others, of which some are cut off again
+pub cut_back : (xs ys zs rest : List ℕ) (begin r n : ℕ) → length xs ≡ begin → r ≤ length ys → begin + r ≤ n
+    → take (begin + r) (take n ((xs ++ (ys ++ zs)) ++ rest)) ≡ xs ++ take r ys
+cut_back xs ys zs rest begin r n long few within =
+    take-take (begin + r) n _ within ∙ ap₂ (λ k ws. take (k + r) ws) (sym long) (append_assoc xs (ys ++ zs) rest) ∙ take-append-add xs ((ys ++ zs) ++ rest) r
+    ∙ ap (λ ws. xs ++ ws) (take-append-le r (ys ++ zs) rest (omega (arith, length-append ys zs)) ∙ take-append-le r ys zs few)
+
+-- texts that are made longer by 4,096 zeros: behind as many as there were stand the zeros
+pub grown_longer : (ts all : List ℕ) (begin len : ℕ) → begin ≡ length ts → len ≡ length ts → all ≡ take (begin + 4096) ts ++ replicate (begin + 4096 - len) 0
+    → (take begin all ≡ ts) × (take (length all - begin) (drop begin all) ≡ zeros)
+grown_longer ts all begin len p q is =
+    let count : begin + 4096 - len ≡ 4096 = omega arith in
+    let grown : all ≡ ts ++ zeros = is ∙ ap₂ (λ x n. x ++ replicate n 0) (take_all (begin + 4096) ts (omega arith)) count in
+    let many : length all - begin ≡ length zeros = omega (arith, ap length grown, length-append ts zeros) in
+    (
+      ap₂ take p grown ∙ take-append_seam ts zeros,
+      ap₂ take many (ap₂ drop p grown ∙ drop-append_seam ts zeros) ∙ take-length zeros,
+    )

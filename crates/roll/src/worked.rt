@@ -20,13 +20,11 @@ fn read_text<R: Roll>(roll: &mut R, number: u32, texts: &mut Vec<u8>) -> Result<
     ensures room { vec_capacity texts.old ≤ vec_capacity texts.new }
     ensures same { Same R.Roll.meaning R.Roll.bottom R.Roll.layers R.Roll.image roll.old roll.new }
 {
-    // A buffer with a length beside it: resizing `texts`, reading into it and cutting it again is no plainer.
-    let mut out = [0u8; LONGEST];
-    let r = roll.read(number, &mut out);
-    if let Ok(n) = r {
-        texts.extend_from_slice(&out[..n]).unwrap();
-    }
-    r
+    let begin = texts.len();
+    texts.resize(begin + LONGEST, 0).unwrap();
+    let answer = roll.read(number, &mut texts[begin..]);
+    texts.truncate(begin + answer.unwrap_or(0));
+    answer
 }
 
 // Works one call, and puts the text that it reads at the end of `texts`, which has room for it.
