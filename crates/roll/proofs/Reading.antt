@@ -123,8 +123,7 @@ pub grown_longer : (ts all : List ℕ) (begin len : ℕ) → begin ≡ length ts
 grown_longer ts all begin len p q is =
     let count : begin + 4096 - len ≡ 4096 = omega arith in
     let grown : all ≡ ts ++ zeros = is ∙ ap₂ (λ x n. x ++ replicate n 0) (take_all (begin + 4096) ts (omega arith)) count in
-    let many : length all - begin ≡ length zeros = omega (arith, ap length grown, length-append ts zeros) in
-    (
+    let many : length all - begin ≡ length zeros = omega (arith, ap length grown, length-append ts zeros) in (
       ap₂ take p grown ∙ take-append_seam ts zeros,
       ap₂ take many (ap₂ drop p grown ∙ drop-append_seam ts zeros) ∙ take-length zeros,
     )

@@ -10,3 +10,4 @@ pub mod Agree
 pub mod Labels
 pub mod Same
 pub mod Giving
+pub mod Changes

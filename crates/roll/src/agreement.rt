@@ -1,7 +1,7 @@
 ghost use Rattle.std.specs.Prelude.{◌<◌, ◌↔◌, IsTrue};
 ghost use Rattle.roll.specs.Roll.{count, entry};
 ghost use Rattle.roll.specs.Agree.{AlikeThere, Agree};
-ghost use Rattle.roll.specs.Same.{Same};
+ghost use Rattle.roll.specs.Changes.{Unchanged};
 
 use crate::limits::LONGEST;
 use crate::roll::Roll;
@@ -11,8 +11,8 @@ fn alike<R: Roll, S: Roll>(left: &mut R, right: &mut S, number: u32) -> bool
     requires left { number < count (R.Roll.meaning left.old) }
     requires right { number < count (S.Roll.meaning right.old) }
     ensures exact { IsTrue result ↔ AlikeThere (entry (R.Roll.meaning left.old) number) (entry (S.Roll.meaning right.old) number) }
-    ensures left { Same R.Roll.meaning R.Roll.bottom R.Roll.layers R.Roll.image left.old left.new }
-    ensures right { Same S.Roll.meaning S.Roll.bottom S.Roll.layers S.Roll.image right.old right.new }
+    ensures left { Unchanged R.Roll left.old left.new }
+    ensures right { Unchanged S.Roll right.old right.new }
 {
     // Buffers with a length beside them: no heap, and a roll reads into a slice.
     let mut one = [0u8; LONGEST];
@@ -28,8 +28,8 @@ fn alike<R: Roll, S: Roll>(left: &mut R, right: &mut S, number: u32) -> bool
 // there. Both stay as they were.
 pub fn agree<R: Roll, S: Roll>(left: &mut R, right: &mut S) -> bool
     ensures exact { IsTrue result ↔ Agree (R.Roll.meaning left.old) (S.Roll.meaning right.old) }
-    ensures left { Same R.Roll.meaning R.Roll.bottom R.Roll.layers R.Roll.image left.old left.new }
-    ensures right { Same S.Roll.meaning S.Roll.bottom S.Roll.layers S.Roll.image right.old right.new }
+    ensures left { Unchanged R.Roll left.old left.new }
+    ensures right { Unchanged S.Roll right.old right.new }
 {
     let count = left.count();
     if right.count() != count {

@@ -1,7 +1,7 @@
 ghost use Rattle.std.specs.Prelude.{◌≡◌, ◌+◌, ◌*◌, ◌≤◌, ◌++◌, length, vec_len, vec_capacity, IsOk, OnOk, OnErr};
 ghost use Rattle.roll.specs.Roll.{entry, read_answer};
-ghost use Rattle.roll.specs.Life.{answer, appends, stored, image_by, image_after_all};
-ghost use Rattle.roll.specs.Same.{Same};
+ghost use Rattle.roll.specs.Life.{answer, appends, image_after_all};
+ghost use Rattle.roll.specs.Changes.{Unchanged, Took};
 ghost use Rattle.roll.specs.Work.{heard, all_heard, reads, told, text_at, Worked};
 
 use crate::answer::Answer;
@@ -18,7 +18,7 @@ fn read_text<R: Roll>(roll: &mut R, number: u32, texts: &mut Vec<u8>) -> Result<
     ensures told { texts.new.items ≡ texts.old.items ++ text_at (entry (R.Roll.meaning roll.old) number) }
     ensures len { vec_len texts.new ≤ vec_len texts.old + LONGEST }
     ensures room { vec_capacity texts.old ≤ vec_capacity texts.new }
-    ensures same { Same R.Roll.meaning R.Roll.bottom R.Roll.layers R.Roll.image roll.old roll.new }
+    ensures same { Unchanged R.Roll roll.old roll.new }
 {
     let begin = texts.len();
     texts.resize(begin + LONGEST, 0).unwrap();
@@ -34,9 +34,7 @@ fn one<R: Roll>(roll: &mut R, call: &Call<'_>, texts: &mut Vec<u8>) -> Answer
     ensures told { texts.new.items ≡ texts.old.items ++ told (R.Roll.meaning roll.old) (reads (heard call.now)) }
     ensures len { vec_len texts.new ≤ vec_len texts.old + LONGEST }
     ensures room { vec_capacity texts.old ≤ vec_capacity texts.new }
-    ensures stored { R.Roll.bottom roll.new ≡ stored (R.Roll.layers roll.old) (R.Roll.bottom roll.old) (appends (heard call.now)) }
-    ensures floors { R.Roll.layers roll.new ≡ R.Roll.layers roll.old }
-    ensures bytes { R.Roll.image roll.new ≡ image_by R.Roll.writes (R.Roll.layers roll.old) (R.Roll.bottom roll.old) (R.Roll.image roll.old) (appends (heard call.now)) }
+    ensures took { Took R.Roll (appends (heard call.now)) roll.old roll.new }
 {
     match call {
         Call::Append(text) => Answer::Appended(roll.append(text)),

@@ -13,7 +13,7 @@ loop-call-preserved g c =
     record {
       worked =
           again _ _ _ _ _ _ _ _ _ _ c.args.calls.now c.loop-call.call-index _ _ _ _ _ _ c.loop-call.invariant.worked c.loop-call.invariant.floors
-          (g.R.Roll.stands c.loop-call.roll) more one.stored one.bytes one.result c.push_reserved.ensures.items one.told;
+          (g.R.Roll.stands c.loop-call.roll) more one.took.stored one.took.bytes one.result c.push_reserved.ensures.items one.told;
       floors = search rules;
       answered = search rules;
       answers_fit = search rules;
