@@ -13,7 +13,8 @@ pub trait Engine {
     // The length that every key has.
     ghost sized: { (s : Self) → HasKeySize (key s) };
 
-    // The state after 640 rounds.
+    // The state after 640 rounds. (Two runs, on four words of 32 bits, are what an engine shows by a rule of the project: the boxes of
+    // both suppliers have these two.)
     fn short_run(&mut self, state: [u32; 4]) -> [u32; 4]
         ensures result { result ≡ words 4 (rounds (key self.old) short_rounds (joined state)) }
         ensures same { key self.new ≡ key self.old };
