@@ -9,7 +9,8 @@ use crate::key::Key;
 use crate::key_words::KeyWords;
 use crate::state::{as_number, as_words};
 
-// An engine that moves the state by thirty-two bits at a time. It keeps the complement of the key's words, so that the nand of a round becomes an and.
+// An engine that moves the state by thirty-two bits at a time. It keeps the complement of the key's words, so that the nand of a
+// round becomes an and.
 #[derive(Clone, Copy)]
 pub struct WordEngine {
     complement: KeyWords,

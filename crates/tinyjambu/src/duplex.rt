@@ -163,8 +163,8 @@ impl Duplex {
         ensures len { length out.new ≡ length input.now }
         ensures same { E.key engine.new ≡ E.key engine.old }
     {
-        // A place that is counted by hand: `split_at_mut` on the rest of `out` was tried, and an adapter of `iter_mut`, and the check
-        // then did not know what `out` holds.
+        // A place that is counted by hand: `split_at_mut` on the rest of `out` was tried, and an adapter of `iter_mut`, and the
+        // check then did not know what `out` holds.
         let mut at = 0;
         while at < input.len() {
             if self.filled == 0 && input.len() - at >= 4 {
