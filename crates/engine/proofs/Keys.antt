@@ -1,13 +1,15 @@
 -- The bits of a key that is held in words.
-use Rattle.std.proofs.Common.{◌≡◌, ℕ, zero, suc, ◌+◌, ◌-◌, ◌*◌, ◌/◌, ◌%◌, ◌^◌, ◌<◌, ◌≤◌, true, Ok, refl, List, [], ◌∷◌, ◌++◌, length, get_or, take, drop, set, replicate, sym, ap, ◌∙◌, ap₂, append-nil, mod-lt, zero-add, arith, length-drop, get_or-take, take-add}
+use Rattle.std.proofs.Common.{◌≡◌, ℕ, zero, suc, ◌+◌, ◌*◌, ◌/◌, ◌%◌, ◌^◌, ◌<◌, ◌≤◌, true, Ok, refl, List, [], ◌∷◌, ◌++◌, length, get_or, take, drop, sym, ap, ◌∙◌, ap₂, append-nil, mod-lt, zero-add, arith, length-drop, get_or-take, take-add}
 use native.Mathlib.Nat.{div-add-mod}
 use lib.Arith.{mod-mul}
 use Rattle.std.proofs.ByRecursion.{All-take, All-drop}
-use Rattle.std.proofs.lemmas.List.{get_or_append_left, take_more_set, length-take-le, drop-set-lt, drop-drop, drop-replicate}
+use Rattle.std.proofs.lemmas.List.{get_or_append_left, take_more, length-take-le, drop-drop}
 use Rattle.engine.specs.Permutation.{bit, key_bit}
 use Rattle.engine.specs.Bytes.{number, bytes, AllBytes, word_bytes, length-word_bytes}
 use Rattle.std.proofs.lemmas.Bool.Decides.{nat_tests}
 use Rattle.std.specs.Simd.{first_chunks}
+use Rattle.std.specs.Array.{IsFromFnResultFrom}
+use denote.Param.Members.{Mut, Called}
 use Rattle.engine.specs.declared.key_size.KeySize.{KeySize}
 use Rattle.engine.specs.declared.key_size.KeySize.TheVariants.{Bits128, Bits192, Bits256}
 use Rattle.engine.specs.declared.key_words.KeyWords.{KeyWords}
@@ -40,23 +42,25 @@ key_at ws u q j h o l =
     rw (n, mod-mul (q * 32 + j) {c = 32} o (omega arith), e, f)
     (word_bit (take u ws) (q % u) j (rw m p) l ∙ ap (λ x. bit x j) (get_or-take u ws (q % u) 0 p))
 
--- the words that are not written yet are 0
-pub rest_more : (ws : List ℕ) (i w : ℕ) → drop i ws ≡ replicate (8 - i) 0 → drop (i + 1) (set ws i w) ≡ replicate (8 - (i + 1)) 0
-rest_more ws i w e =
-    drop-set-lt (i + 1) ws i w (omega arith) ∙ sym (drop-drop 1 i ws) ∙ ap (drop 1) e ∙ drop-replicate 1 (8 - i) 0 ∙ ap (λ n. replicate n 0) (omega arith)
-
--- one word more of a key that is filled from bytes
-pub filled_more : (ws bs : List ℕ) (i : ℕ) → AllBytes bs → i < length ws → 4 * i + 4 ≤ length bs → key_of ws i ≡ take (4 * i) bs
-    → key_of (set ws i (number (take 4 (drop (4 * i) bs)))) (i + 1) ≡ take (4 * (i + 1)) bs
-filled_more ws bs i small h l e =
+-- one word more of a key whose words are read from bytes
+filled_more : (ws bs : List ℕ) (i : ℕ) → AllBytes bs → i < length ws → 4 * i + 4 ≤ length bs → get_or ws i 0 ≡ number (take 4 (drop (4 * i) bs)) → key_of ws i ≡ take (4 * i) bs
+    → key_of ws (i + 1) ≡ take (4 * (i + 1)) bs
+filled_more ws bs i small h l w e =
     let part : List ℕ = take 4 (drop (4 * i) bs) in
     let n : length part ≡ 4 = length-take-le 4 (drop (4 * i) bs) (rw length-drop (omega arith)) in
     let p = bytes-number part (All-take (λ b. b < 256) 4 (drop (4 * i) bs) (All-drop (λ b. b < 256) (4 * i) bs small)) in
     let q : 4 * (i + 1) ≡ 4 * i + 4 = omega arith in
-    let t = take-add (4 * i) 4 bs in
-    let u : bytes 4 (number part) ++ [] ≡ part = append-nil (bytes 4 (number part)) ∙ ap (λ k. bytes k (number part)) (sym n) ∙ p in
-    ap word_bytes (take_more_set ws i (number part) h) ∙ word_bytes-append (take i ws) (number part ∷ [])
-    ∙ ap₂ ◌++◌ e u ∙ sym t ∙ ap (λ k. take k bs) (sym q)
+    let u : bytes 4 (get_or ws i 0) ++ [] ≡ part = append-nil (bytes 4 (get_or ws i 0)) ∙ ap₂ bytes (sym n) w ∙ p in
+    ap word_bytes (take_more ws i 0 h) ∙ word_bytes-append (take i ws) (get_or ws i 0 ∷ [])
+    ∙ ap₂ ◌++◌ e u ∙ sym (take-add (4 * i) 4 bs) ∙ ap (λ k. take k bs) (sym q)
+
+-- a key of which each word is read from the four bytes at its place
+pub filled : (ws bs : List ℕ) (n : ℕ) → AllBytes bs → n ≤ length ws → 4 * n ≤ length bs → ((j : ℕ) → j < n → get_or ws j 0 ≡ number (take 4 (drop (4 * j) bs)))
+    → key_of ws n ≡ take (4 * n) bs
+filled ws bs zero small h l each = refl
+filled ws bs (suc n) small h l each =
+    let e : suc n ≡ n + 1 = omega arith in
+    rw e (filled_more ws bs n small (omega arith) (omega arith) (each n (omega arith)) (filled ws bs n small (omega arith) (omega arith) (λ j k. each j (omega arith))))
 
 -- some words are in use
 size_words-some : (s : KeySize) → 0 < size_words s
@@ -86,3 +90,15 @@ part_at (suc k) (suc i) xs h =
 -- the size of so many bytes
 pub size_of-ok : (n : ℕ) (s : KeySize) → size_of n ≡ Ok s → (is_key_size n ≡ true) × (n ≡ 4 * size_words s)
 size_of-ok n s e = grind (arith, nat_tests)
+
+-- the words that calls at each place gave, where a call gives the word of its place and leaves the closure as it was
+pub made_at : {F : Type 0} (g : Mut F (ℕ × Unit {0}) ℕ) (f : F) (word : ℕ → ℕ) → ((i r : ℕ) (q : F) → Called g f (i, tt) r q → (r ≡ word i) × (q ≡ f))
+    → (ws : List ℕ) (n i : ℕ) → IsFromFnResultFrom g f ws i n → (j : ℕ) → j < n → get_or ws (i + j) 0 ≡ word (i + j)
+made_at g f word gives ws zero i made j h = absurd (omega arith)
+made_at g f word gives ws (suc n) i made zero h =
+    let e : i + zero ≡ i = omega arith in
+    rw e (made.2.1 0 ∙ (gives i made.1 made.0 made.3).0)
+made_at g f word gives ws (suc n) i made (suc j) h =
+    let e : i + suc j ≡ i + 1 + j = omega arith in
+    let rest : IsFromFnResultFrom g f ws (i + 1) n = rw (gives i made.1 made.0 made.3).1 at made.4 in
+    rw e (made_at g f word gives ws n (i + 1) rest j (omega arith))

@@ -1,7 +1,6 @@
 ghost use Rattle.std.specs.Prelude.{◌≡◌, ◌+◌, ◌*◌, ◌/◌, ◌%◌, ◌^◌};
 ghost use Rattle.engine.specs.Permutation.{rounds, taps, bit};
-ghost use Rattle.engine.specs.Keys.{words_sized};
-ghost use Rattle.engine.specs.KeyBytes.{key_bytes};
+ghost use Rattle.engine.specs.KeyBytes.{key_bytes, key_sized};
 
 use crate::engine::Engine;
 use crate::key::Key;
@@ -46,7 +45,7 @@ fn bit_round(s: u128, k: u32) -> u128
 impl Engine for BitEngine {
     ghost key = { λ s. key_bytes s.key };
 
-    ghost sized = { λ s. words_sized s.key.words.words s.key.words.size s.key.words.stored };
+    ghost sized = { λ s. key_sized s.key };
 
     fn short_run(&mut self, state: [u32; 4]) -> [u32; 4] {
         as_words(self.run(as_number(state), 640))

@@ -3,8 +3,8 @@ ghost use Rattle.engine.specs.Permutation.{rounds, short_rounds, long_rounds};
 ghost use Rattle.engine.specs.Bytes.{joined, words};
 ghost use Rattle.engine.specs.Keys.{HasKeySize};
 
-// A key at work. A run turns a state of four words, the least word first, into the state that its rounds give under the key.
-// An engine may change inside, so it is lent by `&mut`, and each function that is lent one says again that the key stays (`same`): a
+// A key at work. A run turns a state of four words, the least word first, into the state that its rounds give under the key. An
+// engine may change inside, so it is lent by `&mut`, and each function that is lent one says again that the key stays (`same`): a
 // function that gave out a type with the lent engine in it could not say what comes back of it.
 pub trait Engine {
     // The bytes of the key, of which there are 16, 24 or 32.
@@ -13,7 +13,8 @@ pub trait Engine {
     // The length that every key has.
     ghost sized: { (s : Self) → HasKeySize (key s) };
 
-    // The state after 640 rounds.
+    // The state after 640 rounds. (Two runs, on four words of 32 bits, are what an engine shows by a rule of the project: the boxes
+    // of both suppliers have these two.)
     fn short_run(&mut self, state: [u32; 4]) -> [u32; 4]
         ensures result { result ≡ words 4 (rounds (key self.old) short_rounds (joined state)) }
         ensures same { key self.new ≡ key self.old };

@@ -4,6 +4,7 @@ ghost use Rattle.engine.specs.Keys.{size_words, fill_answer, fill_after};
 use crate::key_size::KeySize;
 use crate::key_words::KeyWords;
 use refusal::{Fault, Refusal};
+use std::array;
 
 // A key of 16, 24 or 32 bytes. The words past those in use are 0.
 #[derive(Clone, Copy)]
@@ -55,12 +56,8 @@ impl TryFrom<&[u8]> for Key {
 
     fn try_from(bytes: &[u8]) -> Result<Key, Refusal> {
         let size = KeySize::try_from(bytes.len())?;
-        let mut words = [0; 8];
         let (parts, _) = bytes.as_chunks::<4>();
-        // Written by its index: what is written through an adapter of `iter_mut` the check does not know.
-        for (i, part) in parts.iter().enumerate() {
-            words[i] = u32::from_le_bytes(*part);
-        }
+        let words = array::from_fn(|i| parts.get(i).map_or(0, |part| u32::from_le_bytes(*part)));
         Ok(Key {
             words: KeyWords { words, size },
         })

@@ -1,8 +1,8 @@
 ghost use Rattle.std.specs.Prelude.{◌≡◌};
 ghost use Rattle.engine.specs.Bytes.{joined, words};
 
-// The 128 bits of the cipher's state, the least word first. A run takes and gives them as `[u32; 4]`, so that the two functions below can
-// be no `From`: neither type is this crate's.
+// The 128 bits of the cipher's state, the least word first. A run takes and gives them as `[u32; 4]`, so that the two functions
+// below can be no `From`: neither type is this crate's.
 pub type State = [u32; 4];
 
 // The state as one number, of which bit j is s_j.

@@ -1,17 +1,16 @@
 ghost use Rattle.std.specs.Prelude.{◌≡◌, ◌+◌, ◌*◌, ◌/◌, ◌%◌, ◌^◌, ◌<◌, [], ◌∷◌};
-ghost use Rattle.std.proofs.Common.{◌∙◌};
 ghost use Rattle.engine.specs.Permutation.{rounds};
 ghost use Rattle.engine.specs.Bytes.{joined};
-ghost use Rattle.engine.specs.Keys.{key_of, size_words, words_sized};
-ghost use Rattle.engine.specs.KeyBytes.{key_bytes};
-ghost use Rattle.engine.specs.Turns.{Brings, flipped, flip, length-flipped};
+ghost use Rattle.engine.specs.KeyBytes.{key_bytes, flipped_key, flipped_key-sized};
+ghost use Rattle.engine.specs.Turns.{Brings, flip};
 
 use crate::engine::Engine;
 use crate::key::Key;
 use crate::key_words::KeyWords;
 use crate::state::{as_number, as_words};
 
-// An engine that moves the state by thirty-two bits at a time. It keeps the complement of the key's words, so that the nand of a round becomes an and.
+// An engine that moves the state by thirty-two bits at a time. It keeps the complement of the key's words, so that the nand of a
+// round becomes an and.
 #[derive(Clone, Copy)]
 pub struct WordEngine {
     complement: KeyWords,
@@ -29,7 +28,7 @@ impl WordEngine {
 
     // The state after `steps` times 128 rounds, as a number.
     fn run(&self, state: u128, steps: u32) -> u128
-        ensures { result ≡ rounds (key_of (flipped self.now.complement.words) (size_words self.now.complement.size)) (128 * steps) state }
+        ensures { result ≡ rounds (flipped_key self.now.complement) (128 * steps) state }
     {
         let words = self.complement.in_use();
         let [mut a, mut b, mut c, mut d] = as_words(state);
@@ -78,9 +77,9 @@ fn mix(a: u32, b: u32, c: u32, d: u32, k: u32) -> u32
 }
 
 impl Engine for WordEngine {
-    ghost key = { λ s. key_of (flipped s.complement.words) (size_words s.complement.size) };
+    ghost key = { λ s. flipped_key s.complement };
 
-    ghost sized = { λ s. words_sized (flipped s.complement.words) s.complement.size (length-flipped s.complement.words ∙ s.complement.stored) };
+    ghost sized = { λ s. flipped_key-sized s.complement };
 
     fn short_run(&mut self, state: [u32; 4]) -> [u32; 4] {
         as_words(self.run(as_number(state), 5))

@@ -18,7 +18,9 @@ fn pair(high: u8, low: u8) -> Option<u8>
     Some(16 * digit(high)? + digit(low)?)
 }
 
-// The bytes that a text spells, two digits a byte. The kit's `hex` promises less: not that an empty text needs no memory.
+// The bytes that a text spells, two digits a byte.
+// (The kit's `hex` may answer want of memory for an empty text, as this does not, and a proof from its definitions of digits and
+// pairs to ours is longer than these lines, of which none would be left for the test that swaps a pair's digits.)
 pub fn decode(heap: Global, text: &[u8]) -> Result<Vec<u8>, HexFault>
     ensures { MatchResult result (λ v. Spells text.now v.items) (λ e. Refuses e text.now) }
 {

@@ -17,7 +17,7 @@ fn as_signed(answer: Result<usize, Fault>) -> i64
     }
 }
 
-// Whole sealing under a key of bytes.
+// Whole sealing under a key of bytes. Key, nonce, data, text and `out` come one by one, here and in `open_under`, as C gives them.
 fn seal_under(
     key: &[u8],
     nonce: &[u8],

@@ -26,6 +26,8 @@ impl From<Refusal> for Fault {
     }
 }
 
+// A fault prints with its number, words, floor and entry. (`Display` and `Error` are not derived, for the same reasons as a
+// refusal's: a derived `Display` states no `ghost output`.)
 impl fmt::Display for Fault {
     ghost output = { λ fault. Some (fault_text fault) };
 

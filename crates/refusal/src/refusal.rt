@@ -66,7 +66,8 @@ impl From<Refusal> for u8 {
     }
 }
 
-// A refusal prints as its words.
+// A refusal prints as its words. (Not derived: the `Display` that `thiserror` derives states no `ghost output`, so that what is
+// printed would be proved no more. A derive of `Error` alone, below, would be no shorter than its line.)
 impl fmt::Display for Refusal {
     ghost output = { λ refusal. Some (refusal_words refusal) };
 

@@ -1,8 +1,8 @@
 ghost use Rattle.std.specs.Prelude.{◌≡◌};
 ghost use Rattle.tinyjambu.specs.Duplex.{text_of};
 
-// Whether text is sealed, or sealed text opened. A value that one walk is given, and no step passed in: the walk is proved once, and
-// opening by the facts of sealing.
+// Whether text is sealed, or sealed text opened. A value that one walk is given, and no step passed in: the walk is proved once,
+// and opening by the facts of sealing.
 #[derive(Clone, Copy)]
 pub enum Direction {
     Sealing,

@@ -1,7 +1,7 @@
 ghost use Rattle.std.specs.Prelude.{◌≡◌, ℕ, ◌+◌, ◌*◌, ◌/◌, ◌%◌, ◌^◌, ◌<◌, List, [], ◌++◌, length, bit_xor};
 ghost use Rattle.engine.specs.Bytes.{joined, word_bytes};
 ghost use Rattle.tinyjambu.specs.Mode.{stream, data_run, text_run, tag};
-ghost use Rattle.tinyjambu.specs.Duplex.{phase_run, entered, fed_byte, sealed_byte, closed, text_of, sealed_of};
+ghost use Rattle.tinyjambu.specs.Duplex.{phase_run, entered, sealed_byte, closed, text_of, sealed_of};
 
 use crate::direction::Direction;
 use crate::little_endian::{load, store};
@@ -26,7 +26,7 @@ fn word_step<E: Engine>(engine: &mut E, state: State, phase: Phase, word: u32) -
 }
 
 impl Duplex {
-    ghost use Rattle.tinyjambu.specs.History.{TookData, TookText, sealed_piece, sealed_tag};
+    ghost use Rattle.tinyjambu.specs.History.{FedByte, FedBlock, TookData, TookText, sealed_piece, sealed_tag};
 
     // Takes the key and the nonce.
     pub(crate) fn begin<E: Engine>(engine: &mut E, nonce: [u32; 3]) -> Duplex
@@ -81,8 +81,7 @@ impl Duplex {
 
     // Takes one byte of associated data.
     fn absorb_byte<E: Engine>(&mut self, engine: &mut E, byte: u8)
-        ensures state { joined self.new.state ≡ fed_byte (data_run (E.key engine.old)) self.old.filled (joined self.old.state) byte }
-        ensures filled { self.new.filled ≡ (self.old.filled + 1) % 4 }
+        ensures fed { FedByte (data_run (E.key engine.old)) self.old byte self.new }
         ensures same { E.key engine.new ≡ E.key engine.old }
     {
         self.enter(engine, Phase::Data);
@@ -92,8 +91,7 @@ impl Duplex {
     // Takes a full block of associated data, where no block is open.
     fn absorb_word<E: Engine>(&mut self, engine: &mut E, word: u32)
         requires { self.old.filled ≡ 0 }
-        ensures state { joined self.new.state ≡ bit_xor (data_run (E.key engine.old) (joined self.old.state)) (word * 2 ^ 96) }
-        ensures filled { self.new.filled ≡ 0 }
+        ensures fed { FedBlock (data_run (E.key engine.old)) self.old word self.new }
         ensures same { E.key engine.new ≡ E.key engine.old }
     {
         self.state = word_step(engine, self.state, Phase::Data, word);
@@ -129,8 +127,7 @@ impl Duplex {
     // Takes one byte of the text, or of the sealed text, and gives back the other.
     fn crypt_byte<E: Engine>(&mut self, engine: &mut E, direction: Direction, byte: u8) -> u8
         ensures result { sealed_of direction byte result ≡ sealed_byte (text_run (E.key engine.old)) self.old.filled (joined self.old.state) (text_of direction byte result) }
-        ensures state { joined self.new.state ≡ fed_byte (text_run (E.key engine.old)) self.old.filled (joined self.old.state) (text_of direction byte result) }
-        ensures filled { self.new.filled ≡ (self.old.filled + 1) % 4 }
+        ensures fed { FedByte (text_run (E.key engine.old)) self.old (text_of direction byte result) self.new }
         ensures same { E.key engine.new ≡ E.key engine.old }
     {
         self.enter(engine, Phase::Text);
@@ -143,8 +140,7 @@ impl Duplex {
     fn crypt_word<E: Engine>(&mut self, engine: &mut E, direction: Direction, word: u32) -> u32
         requires { self.old.filled ≡ 0 }
         ensures result { sealed_of direction word result ≡ bit_xor (text_of direction word result) (stream (text_run (E.key engine.old) (joined self.old.state))) }
-        ensures state { joined self.new.state ≡ bit_xor (text_run (E.key engine.old) (joined self.old.state)) (text_of direction word result * 2 ^ 96) }
-        ensures filled { self.new.filled ≡ 0 }
+        ensures fed { FedBlock (text_run (E.key engine.old)) self.old (text_of direction word result) self.new }
         ensures same { E.key engine.new ≡ E.key engine.old }
     {
         let state = phase_run(engine, self.state, Phase::Text);
@@ -167,8 +163,8 @@ impl Duplex {
         ensures len { length out.new ≡ length input.now }
         ensures same { E.key engine.new ≡ E.key engine.old }
     {
-        // A place that is counted by hand: once a loop lends the rest of `out` on, or writes through an adapter of `iter_mut`, the
-        // check does not know what `out` holds.
+        // A place that is counted by hand: `split_at_mut` on the rest of `out` was tried, and an adapter of `iter_mut`, and the
+        // check then did not know what `out` holds.
         let mut at = 0;
         while at < input.len() {
             if self.filled == 0 && input.len() - at >= 4 {

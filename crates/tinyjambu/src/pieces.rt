@@ -36,7 +36,8 @@ fn seal_texts<E: Engine>(duplex: &mut Duplex, engine: &mut E, pieces: &[&[u8]], 
     ensures out { (nonce ad : List ℕ) → TookText (E.key engine.old) nonce ad [] duplex.old → out.new ≡ sealed_piece (E.key engine.old) nonce ad [] (message pieces.now) }
     ensures same { E.key engine.new ≡ E.key engine.old }
 {
-    // A place that is counted by hand: once a loop lends the rest of `out` on, the check does not know what `out` holds.
+    // A place that is counted by hand: `split_at_mut` on the rest of `out` was tried, and the check then did not know what `out`
+    // holds.
     let mut at = 0;
     for piece in pieces {
         let end = at + piece.len();
@@ -45,7 +46,8 @@ fn seal_texts<E: Engine>(duplex: &mut Duplex, engine: &mut E, pieces: &[&[u8]], 
     }
 }
 
-// Seals the message of which data and text come in pieces: writes the sealed form of the joined message at the start of `out`, and answers its length.
+// Seals the message of which data and text come in pieces: writes the sealed form of the joined message at the start of `out`, and
+// answers its length.
 pub fn seal_pieces<E: Engine>(
     engine: &mut E,
     nonce: [u32; 3],

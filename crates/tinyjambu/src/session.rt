@@ -18,8 +18,8 @@ pub struct Session<E> {
     taken: usize,
 }
 
-// The same, while its text comes in pieces. It is a type of its own, since no call serves both: a parameter for the phase of one type
-// would only say what the two names say.
+// The same, while its text comes in pieces. It is a type of its own, since no call serves both: a parameter for the phase of one
+// type would only say what the two names say.
 #[derive(Drop)]
 pub struct TextSession<E> {
     engine: E,

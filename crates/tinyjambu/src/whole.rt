@@ -28,7 +28,8 @@ fn nonce_words(nonce: &[u8]) -> Result<[u32; 3], Refusal>
     ])
 }
 
-// Seals a text with its associated data (parameters one by one, here and below, as the calls from C take them): writes the sealed form at the start of `out`, and answers its length.
+// Seals a text with its associated data: writes the sealed form at the start of `out`, and answers its length.
+// Nonce, data, text and `out` come one by one, here and below, as the calls from C give them.
 pub fn seal<E: Engine>(
     engine: &mut E,
     nonce: &[u8],
@@ -60,8 +61,7 @@ fn text_len(ad: usize, sealed: usize, room: usize) -> Result<usize, Refusal>
 }
 
 // Whether two tags are the same, without an early exit: `==` stops where they first differ.
-fn same_tag(made: [u8; 8], given: &[u8]) -> bool
-    requires { length given.now ≡ 8 }
+fn same_tag(made: [u8; 8], given: &[u8; 8]) -> bool
     ensures { result ≡ same made given.now }
 {
     let differ = made
@@ -72,8 +72,7 @@ fn same_tag(made: [u8; 8], given: &[u8]) -> bool
 }
 
 // Refuses with 13 a tag that is not the one that was made.
-fn check_tag(made: [u8; 8], given: &[u8]) -> Result<(), Refusal>
-    requires { length given.now ≡ 8 }
+fn check_tag(made: [u8; 8], given: &[u8; 8]) -> Result<(), Refusal>
     ensures { result ≡ tag_answer made given.now }
 {
     if same_tag(made, given) {
@@ -95,7 +94,7 @@ fn recover<E: Engine>(
     ensures text { MatchResult result (λ _. opened (E.key engine.old) (word_bytes nonce) ad.now sealed.now ≡ Some out.new) (λ refusal. (opened (E.key engine.old) (word_bytes nonce) ad.now sealed.now ≡ None) × (refusal ≡ Broken)) }
     ensures same { E.key engine.new ≡ E.key engine.old }
 {
-    let (body, given) = sealed.split_at(out.len());
+    let (body, given) = sealed.split_last_chunk::<8>().unwrap();
     let mut duplex = Duplex::begin(engine, nonce);
     duplex.absorb(engine, ad);
     duplex.end_data();
@@ -103,7 +102,8 @@ fn recover<E: Engine>(
     check_tag(duplex.tag(engine), given)
 }
 
-// Opens sealed bytes: writes the text that seals to them at the start of `out`, and answers its length. A refusal leaves only zeros in `out`.
+// Opens sealed bytes: writes the text that seals to them at the start of `out`, and answers its length. A refusal leaves only zeros
+// in `out`.
 pub fn open<E: Engine>(
     engine: &mut E,
     nonce: &[u8],

@@ -1,4 +1,4 @@
-use Rattle.std.proofs.Common.{◌≡◌, ℕ, ◌+◌, List, [], ◌++◌, length, take, drop, sym, ap, ◌∙◌, ap₂, arith}
+use Rattle.std.proofs.Common.{◌≡◌, ℕ, ◌+◌, ◌-◌, List, [], ◌++◌, length, take, drop, sym, ap, ◌∙◌, ap₂, arith}
 use Rattle.engine.specs.Bytes.{word_bytes}
 use Rattle.tinyjambu.specs.History.{TookData, TookText, sealed_piece, sealed_tag}
 use Rattle.tinyjambu.specs.Answers.{tag_answer}
@@ -24,14 +24,15 @@ returns-clause-text g c =
     = rw k₁ at c.absorb.ensures.took in
     let takes : (n ad t₀ : List ℕ) → TookText key n ad t₀ d₂ → TookText key n ad (t₀ ++ t) d₃
     = rw k₂ at c.crypt.ensures.took in
-    let makes : (n ad t₀ : List ℕ) → TookText key n ad t₀ d₂ → c.split_at.result.0.now ≡ sealed_piece key n ad t₀ t
+    let makes : (n ad t₀ : List ℕ) → TookText key n ad t₀ d₂ → c.unwrap.result.0.now ≡ sealed_piece key n ad t₀ t
     = rw k₂ at c.crypt.ensures.out in
     let tags : (n ad t : List ℕ) → TookText key n ad t d₃ → c.tag.result ≡ sealed_tag key n ad t
     = rw k₃ at c.tag.ensures.result in
     let took = c.end_data.ensures.took key n ad (absorbs n [] c.begin-duplex.ensures.took) in
-    let m : length t + 8 ≡ length s = omega (arith, c.crypt.ensures.len, c.split_at.ensures.front_len) in
-    let cut : length c.args.out.now ≡ length t = omega (arith, c.crypt.ensures.len, c.split_at.ensures.front_len) in
-    let body : take (length t) s ≡ sealed_piece key n ad [] t = sym (c.split_at.ensures.front ∙ ap (λ k. take k s) cut) ∙ makes n ad [] took in
+    let parts = rw c.unwrap.ensures at c.split_last_chunk.ensures.cases in
+    let m : length t + 8 ≡ length s = omega (arith, c.crypt.ensures.len, parts.2) in
+    let cut : length s - 8 ≡ length t = omega arith in
+    let body : take (length t) s ≡ sealed_piece key n ad [] t = sym (parts.0 ∙ ap (λ k. take k s) cut) ∙ makes n ad [] took in
     let is : c.check_tag.result ≡ tag_answer (sealed_tag key n ad t) (drop (length t) s)
-    = c.check_tag.ensures ∙ ap₂ tag_answer (tags n ad t (takes n ad [] took)) (c.split_at.ensures.back ∙ ap (λ k. drop k s) cut) in
+    = c.check_tag.ensures ∙ ap₂ tag_answer (tags n ad t (takes n ad [] took)) (parts.1 ∙ ap (λ k. drop k s) cut) in
     tag_decides (same (sealed_tag key n ad t) (drop (length t) s)) t (recovered key n ad t s m body) is

@@ -18,7 +18,7 @@ loop-byte-preserved-in-Some-split_first_chunk g c =
     let four = four_at left 0 l in
     let is : c.from_le_bytes.result ≡ number (take 4 left) = omega (arith, ap number four, rw (cut.0 ∙ four) at c.from_le_bytes.ensures) in (
       rw cut.1 (left_word left c.loop-byte.invariant.0 l c.if-self-eq0.true _ _
-          (e.state ∙ ap₂ (λ k w. bit_xor (data_run k (joined d.state)) (w * 2 ^ 96)) c.loop-byte.invariant.1 is) e.filled),
+          (e.fed.state ∙ ap₂ (λ k w. bit_xor (data_run k (joined d.state)) (w * 2 ^ 96)) c.loop-byte.invariant.1 is) e.fed.filled),
       e.same ∙ c.loop-byte.invariant.1,
     )
 

@@ -17,7 +17,7 @@ loop-at-preserved-then-input-at-ge4 g c =
     let r = c.crypt_word-other.result in
     let d = c.args.direction in (
       crypted_word_more c.loop-at.invariant.0 r _ _ _ (all_bytes c.args.input.now c.type_inv.input) l c.crypt_word-other.type_inv c.if-self-eq0.true c.store.ensures
-          (e.state ∙ ap₂ (λ k w. bit_xor (text_run k s) (text_of d w r * 2 ^ 96)) same c.load.ensures) e.filled
+          (e.fed.state ∙ ap₂ (λ k w. bit_xor (text_run k s) (text_of d w r * 2 ^ 96)) same c.load.ensures) e.fed.filled
           (ap (λ w. sealed_of d w r) (sym c.load.ensures) ∙ e.result ∙ ap₂ (λ k w. bit_xor (text_of d w r) (stream (text_run k s))) same c.load.ensures),
       e.same ∙ same,
     )
@@ -30,7 +30,7 @@ loop-at-preserved g c =
     let r = c.crypt_byte.result in
     let x = get_or c.args.input.now c.loop-at.at 0 in (
       crypted_byte_more c.loop-at.invariant.0 r _ _ c.loop-at-test.true c.crypt_byte.type_inv
-          (e.state ∙ ap (λ k. fed_byte (text_run k) d.filled (joined d.state) (text_of c.args.direction x r)) same) e.filled
+          (e.fed.state ∙ ap (λ k. fed_byte (text_run k) d.filled (joined d.state) (text_of c.args.direction x r)) same) e.fed.filled
           (e.result ∙ ap (λ k. sealed_byte (text_run k) d.filled (joined d.state) (text_of c.args.direction x r)) same),
       e.same ∙ same,
     )
