@@ -15,7 +15,8 @@ fn is_refused(rt: &impl Abort, sealed: &[u8]) {
     assert!(rt; out.iter().all(|&byte| byte == 0));
 }
 
-// Checks that sealed bytes are refused with any one bit changed. It goes by index, since the whole slice is read while a byte is changed.
+// Checks that sealed bytes are refused with any one bit changed.
+// It goes by index, since the whole slice is read while a byte is changed.
 fn each_change_is_refused(rt: &impl Abort, sealed: &mut [u8]) {
     for at in 0..sealed.len() {
         for bit in 0..8u32 {
