@@ -15,6 +15,7 @@ use anyhow::{bail, ensure};
 use hexadecimal::Hex;
 use roll::{Kind, Label, Nonce};
 use std::fs;
+use std::rt::Files;
 use tinyjambu::{BitEngine, Key, WordEngine};
 
 const KEY_FILE: &str = "studio.key";
@@ -34,18 +35,18 @@ const LABEL: Label = Label {
 };
 
 // The bytes of a file.
-fn read_file(rt: &HostRuntime, file: &str) -> anyhow::Result<Vec<u8>> {
+fn read_file(rt: &(impl Files + AllocGlobal), file: &str) -> anyhow::Result<Vec<u8>> {
     fs::read(rt, file).map_err(|error| failure(file, error))
 }
 
 // The key of the key file.
-fn read_key_file(rt: &HostRuntime) -> anyhow::Result<Key> {
+fn read_key_file(rt: &(impl Files + AllocGlobal)) -> anyhow::Result<Key> {
     let bytes = read_file(rt, KEY_FILE)?;
     read_key(rt.alloc(), &bytes).map_err(|fault| failure(KEY_FILE, fault))
 }
 
 // Seals the scene with the word engine and writes the sealed file.
-fn check_in(rt: &HostRuntime, key: Key, scene: &[u8]) -> anyhow::Result<()> {
+fn check_in(rt: &(impl Files + Print + AllocGlobal), key: Key, scene: &[u8]) -> anyhow::Result<()> {
     let heap = rt.alloc();
     let mut sealed = vec![in heap; 0u8; scene.len().saturating_add(8)]?;
     let mut engine = WordEngine::new(key);
@@ -64,7 +65,12 @@ fn check_in(rt: &HostRuntime, key: Key, scene: &[u8]) -> anyhow::Result<()> {
 }
 
 // Opens sealed bytes with the bit engine, and compares them with the scene.
-fn check_out(rt: &HostRuntime, key: Key, scene: &[u8], sealed: &[u8]) -> anyhow::Result<()> {
+fn check_out(
+    rt: &(impl Print + AllocGlobal),
+    key: Key,
+    scene: &[u8],
+    sealed: &[u8],
+) -> anyhow::Result<()> {
     let heap = rt.alloc();
     let mut opened = vec![in heap; 0u8; scene.len()]?;
     let mut engine = BitEngine::new(key);
@@ -81,7 +87,11 @@ fn check_out(rt: &HostRuntime, key: Key, scene: &[u8], sealed: &[u8]) -> anyhow:
 }
 
 // Shows that sealed bytes of which one was altered are refused, and that nothing of them is left in the out buffer.
-fn check_altered(rt: &HostRuntime, key: Key, sealed: &mut [u8]) -> anyhow::Result<()> {
+fn check_altered(
+    rt: &(impl Print + AllocGlobal),
+    key: Key,
+    sealed: &mut [u8],
+) -> anyhow::Result<()> {
     let heap = rt.alloc();
     let Some(at) = altered(sealed) else {
         bail!("the sealed file is empty");
@@ -103,7 +113,7 @@ fn check_altered(rt: &HostRuntime, key: Key, sealed: &mut [u8]) -> anyhow::Resul
 }
 
 // Checks one revision in, looks at what was stored, and keeps it in a pocket.
-fn run(rt: &HostRuntime) -> anyhow::Result<()> {
+fn run(rt: &(impl Files + Print + AllocGlobal)) -> anyhow::Result<()> {
     let key = read_key_file(rt)?;
     println!(rt; "{KEY_FILE}: a key of 16 bytes")?;
     let scene = read_file(rt, SCENE_FILE)?;

@@ -34,7 +34,7 @@ impl fmt::Display for Line<'_> {
 }
 
 // Works a list of calls on a pocket, which a sealed revision fills in the end, and prints the answers.
-pub(crate) fn work_pocket(rt: &HostRuntime, sealed: &[u8]) -> anyhow::Result<()> {
+pub(crate) fn work_pocket(rt: &(impl Print + AllocGlobal), sealed: &[u8]) -> anyhow::Result<()> {
     let heap = rt.alloc();
     let calls = [
         Call::Append(sealed),

@@ -14,6 +14,7 @@ pub fn zero_engine() -> WordEngine {
 }
 
 // What an engine seals a text to, and 0 in each byte behind the sealed form.
+// An array: sealing writes into a lent slice, so a vector without heap would be filled with zeros first, and cut afterwards.
 pub fn sealed<E: Engine, const N: usize>(
     engine: &mut E,
     ad: &[u8],

@@ -8,8 +8,10 @@ use tinyjambu::{Refusal, Session, open, seal, seal_pieces};
 const ALL: usize = 65545;
 
 // Checks what sealing answers to lengths that are wrong where a flag says so.
-fn sealing(rt: &impl Abort, all: &[u8; ALL], out: &mut [u8; ALL], wrong: [bool; 4]) {
+fn sealing(rt: &impl Abort, wrong: [bool; 4]) {
     let [nonce, ad, text, room] = wrong;
+    let all = [0u8; ALL];
+    let mut out = [0u8; ALL];
     let nonce_bytes = &all[0..if nonce { 11 } else { 12 }];
     let ad_bytes = &all[0..if ad { 65537 } else { 3 }];
     let text_bytes = &all[0..if text { 65537 } else { 5 }];
@@ -31,13 +33,11 @@ fn sealing(rt: &impl Abort, all: &[u8; ALL], out: &mut [u8; ALL], wrong: [bool; 
 
 #[test]
 fn sealing_refuses_in_order(rt: HostRuntime) {
-    let all = [0u8; ALL];
-    let mut out = [0u8; ALL];
     for nonce in [false, true] {
         for ad in [false, true] {
             for text in [false, true] {
                 for room in [false, true] {
-                    sealing(&rt, &all, &mut out, [nonce, ad, text, room]);
+                    sealing(&rt, [nonce, ad, text, room]);
                 }
             }
         }
@@ -45,9 +45,11 @@ fn sealing_refuses_in_order(rt: HostRuntime) {
 }
 
 // Checks what opening so many zeros answers, with lengths that are wrong where a flag says so. No text seals to the zeros.
-fn opening(rt: &impl Abort, all: &[u8; ALL], out: &mut [u8; ALL], sealed: usize, wrong: [bool; 3]) {
+fn opening(rt: &impl Abort, sealed: usize, wrong: [bool; 3]) {
     assert!(rt; sealed <= ALL);
     let [nonce, ad, room] = wrong;
+    let all = [0u8; ALL];
+    let mut out = [0u8; ALL];
     let nonce_bytes = &all[0..if nonce { 13 } else { 12 }];
     let ad_bytes = &all[0..if ad { 65537 } else { 3 }];
     let text = sealed.saturating_sub(8);
@@ -71,13 +73,11 @@ fn opening(rt: &impl Abort, all: &[u8; ALL], out: &mut [u8; ALL], sealed: usize,
 
 #[test]
 fn opening_refuses_in_order(rt: HostRuntime) {
-    let all = [0u8; ALL];
-    let mut out = [0u8; ALL];
     for sealed in [7, 13, 65545] {
         for nonce in [false, true] {
             for ad in [false, true] {
                 for room in [false, true] {
-                    opening(&rt, &all, &mut out, sealed, [nonce, ad, room]);
+                    opening(&rt, sealed, [nonce, ad, room]);
                 }
             }
         }
@@ -85,8 +85,10 @@ fn opening_refuses_in_order(rt: HostRuntime) {
 }
 
 // Checks what sealing in pieces answers to lengths that are wrong where a flag says so.
-fn sealing_pieces(rt: &impl Abort, all: &[u8; ALL], out: &mut [u8; ALL], wrong: [bool; 3]) {
+fn sealing_pieces(rt: &impl Abort, wrong: [bool; 3]) {
     let [ad, text, room] = wrong;
+    let all = [0u8; ALL];
+    let mut out = [0u8; ALL];
     let ad_bytes = &all[0..if ad { 65536 } else { 3 }];
     let text_bytes = &all[0..if text { 65536 } else { 4 }];
     let room_len = text_bytes.len() + if room { 8 } else { 9 };
@@ -107,12 +109,10 @@ fn sealing_pieces(rt: &impl Abort, all: &[u8; ALL], out: &mut [u8; ALL], wrong: 
 
 #[test]
 fn sealing_pieces_refuses_in_order(rt: HostRuntime) {
-    let all = [0u8; ALL];
-    let mut out = [0u8; ALL];
     for ad in [false, true] {
         for text in [false, true] {
             for room in [false, true] {
-                sealing_pieces(&rt, &all, &mut out, [ad, text, room]);
+                sealing_pieces(&rt, [ad, text, room]);
             }
         }
     }

@@ -1,8 +1,9 @@
-ghost use Rattle.std.specs.Prelude.{◌≡◌, ◌↔◌, IsTrue, IfOk, length, Ok};
+ghost use Rattle.std.specs.Prelude.{◌≡◌, ◌↔◌, IsTrue, OnOk, length, Ok};
 ghost use Rattle.vectors.specs.Cases.{SealsTo, OpensTo};
 
 use crate::case::Case;
-use std::alloc::{AllocError, Global};
+use crate::fault::CaseFault;
+use std::alloc::Global;
 use tinyjambu::{Engine, Fault};
 
 // Whether a call was taken and filled its whole out buffer with these bytes.
@@ -30,16 +31,21 @@ fn opens<E: Engine>(engine: &mut E, case: &Case, out: &mut [u8]) -> bool
     gave(answer, out, &case.text)
 }
 
-// Whether a case agrees with an engine of its key, both ways.
-pub(crate) fn agrees<E: Engine>(
+// Checks that a case agrees with an engine of its key, both ways, and answers `differs` where it does not.
+pub(crate) fn check_agreement<E: Engine>(
     heap: Global,
     engine: &mut E,
     case: &Case,
-) -> Result<bool, AllocError>
-    ensures sealed { IfOk result (λ b. IsTrue b → SealsTo (E.key engine.old) case.now) }
-    ensures opened { IfOk result (λ b. IsTrue b → OpensTo (E.key engine.old) case.now) }
+    differs: CaseFault,
+) -> Result<(), CaseFault>
+    ensures sealed { OnOk result (SealsTo (E.key engine.old) case.now) }
+    ensures opened { OnOk result (OpensTo (E.key engine.old) case.now) }
 {
     let mut sealed = vec![in heap; 0u8; case.sealed.len()]?;
     let mut text = vec![in heap; 0u8; case.text.len()]?;
-    Ok(seals(engine, case, &mut sealed) && opens(engine, case, &mut text))
+    if seals(engine, case, &mut sealed) && opens(engine, case, &mut text) {
+        Ok(())
+    } else {
+        Err(differs)
+    }
 }

@@ -1,7 +1,7 @@
 ghost use Rattle.std.specs.Prelude.{OnOk};
 ghost use Rattle.vectors.specs.Cases.{SealsTo, OpensTo};
 
-use crate::agreement::agrees;
+use crate::agreement::check_agreement;
 use crate::case::Case;
 use crate::fault::CaseFault;
 use std::alloc::Global;
@@ -16,13 +16,13 @@ pub(crate) fn judge(heap: Global, size: KeySize, case: &Case) -> Result<(), Case
         return Err(CaseFault::Malformed);
     }
     let key = Key::try_from(case.key.as_slice()).map_err(|_| CaseFault::Malformed)?;
-    if !agrees(heap, &mut BitEngine::new(key), case)? {
-        return Err(CaseFault::BitsDiffer);
-    }
-    if !agrees(heap, &mut WordEngine::new(key), case)? {
-        return Err(CaseFault::WordsDiffer);
-    }
-    Ok(())
+    check_agreement(heap, &mut BitEngine::new(key), case, CaseFault::BitsDiffer)?;
+    check_agreement(
+        heap,
+        &mut WordEngine::new(key),
+        case,
+        CaseFault::WordsDiffer,
+    )
 }
 
 // Runs the case of a block of lines with both engines.
