@@ -8,7 +8,7 @@ use Rattle.roll.proofs.Rolls.{none_some}
 use Rattle.tape.specs.declared.extent.Extent.{Extent}
 use Rattle.tape.specs.Tape.{begin_of, end_of, count_of, last_end, InOrder, every, entry_ordered, tape_length, header_ordered, in_order}
 use Rattle.tape.specs.TapeLaws.{ordered}
-use Rattle.tape.specs.Judged.{extent_of, judged, judgement}
+use Rattle.tape.specs.Judged.{tape_length_answer, extent_of, judged, judgement}
 
 -- the next entry begins where this one ends
 pub begin_next : (memory : List ℕ) (i : ℕ) → begin_of memory (i + 1) ≡ end_of memory i
@@ -28,6 +28,10 @@ every_fails : (test : ℕ → Bool) (n i : ℕ) → i < n → test i ≡ false �
 every_fails test zero i h e = absurd (omega arith)
 every_fails test (suc n) i h e =
     ⊎_elim (λ l. and_right (test n) (every test n) (every_fails test n i l e)) (λ l. let same : i ≡ n = omega arith in and_left (test n) (every test n) (ap test (sym same) ∙ e)) (cases_lt i n)
+
+-- a length that is not refused is that of a tape
+pub length_passed : (n : ℕ) → Ok tt ≡ tape_length_answer n → tape_length n ≡ true
+length_passed n = cond_both (tape_length n) _ _ (λ r. Ok tt ≡ r → tape_length n ≡ true) (λ t e. t) (λ f e. absurd (cc e))
 
 -- a memory that passes each part of the test is in order, and one that fails any part is not
 module _ (memory : List ℕ) where
