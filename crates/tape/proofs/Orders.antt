@@ -1,5 +1,5 @@
 -- The test for order, and the relation that it decides.
-use Rattle.std.proofs.Common.{◌≡◌, ℕ, zero, suc, ◌+◌, ◌-◌, ◌*◌, ◌<◌, ◌≤◌, Bool, true, false, leb, List, length, Some, None, Ok, Err, Result, sym, refl, ap, ◌∙◌, ⊎_elim, add-one, arith}
+use Rattle.std.proofs.Common.{◌≡◌, ℕ, zero, suc, ◌+◌, ◌-◌, ◌*◌, ◌<◌, ◌≤◌, ◌&&◌, Bool, true, false, leb, List, length, Some, None, Ok, Err, Result, sym, refl, ap, ◌∙◌, ap₂, ⊎_elim, add-one, arith}
 use Rattle.std.proofs.lemmas.Bool.{and_from, and_left, and_right, cases_lt, cond-true, cond-false, cond_both, eq-eqb, le-leb}
 use Rattle.std.specs.Result.{result_ok}
 use Rattle.refusal.specs.declared.refusal.Refusal.{Refusal}
@@ -70,12 +70,19 @@ module _ (memory : List ℕ) where
       (every-each (entry_ordered memory) (count_of memory) (λ i h. and_from _ _ (le-leb _ _ (o.rising i h)) (le-leb _ _ (o.small i h))))
       (le-leb _ _ o.apart)
 
-  -- a judgement of a memory that is long enough and not too long
-  pub judged_ill : tape_length (length memory) ≡ true → in_order memory ≡ false → judgement memory ≡ Err TapeDisorder
-  judged_ill t f = cond-true _ _ _ t ∙ cond-false _ _ _ f
+  -- an entry is in order if the test of where the loop has it begin and end says so
+  pub entry_tested : (i begin end : ℕ) (b : Bool) → begin ≡ begin_of memory i → end ≡ end_of memory i → b ≡ (leb begin end && leb end (begin + 4096)) → entry_ordered memory i ≡ b
+  entry_tested i begin end b p q e = sym (e ∙ ap₂ (λ x y. leb x y && leb y (x + 4096)) p q)
 
-  pub judged_well : tape_length (length memory) ≡ true → in_order memory ≡ true → judgement memory ≡ Ok (extent_of memory)
-  judged_well t o = cond-true _ _ _ t ∙ cond-true _ _ _ o
+  -- a judgement of a memory of which the length was not refused
+  pub judged_ill : Ok tt ≡ tape_length_answer (length memory) → in_order memory ≡ false → Err TapeDisorder ≡ judgement memory
+  judged_ill e f = sym (cond-true _ _ _ (length_passed (length memory) e) ∙ cond-false _ _ _ f)
+
+  pub judged_well : Ok tt ≡ tape_length_answer (length memory) → header_ordered memory ≡ true → every (entry_ordered memory) (count_of memory) ≡ true
+      → last_end memory ≤ length memory - 4 * count_of memory → Ok (extent_of memory) ≡ judgement memory
+  judged_well e b c d =
+      let t = length_passed (length memory) e in
+      sym (cond-true _ _ _ t ∙ cond-true _ _ _ (passes t b c (le-leb _ _ d)))
 
   -- what holds of each answer of a judgement, where that may be given, holds of the judgement
   pub judgement_is : (P : Result Extent Refusal → Type 0) → (in_order memory ≡ true → P (Ok (extent_of memory)))
