@@ -1,5 +1,5 @@
 -- The entries of a pocket, by where they begin, and one more.
-use Rattle.std.proofs.Common.{◌≡◌, ℕ, zero, suc, ◌+◌, ◌-◌, ◌<◌, ◌≤◌, List, [], ◌∷◌, ◌++◌, length, get_or, take, drop, drop_of_length-le, Some, None, Err, sym, refl, ap, ◌∙◌, ap₂, arith}
+use Rattle.std.proofs.Common.{◌≡◌, ℕ, zero, suc, ◌+◌, ◌-◌, ◌<◌, ◌≤◌, List, [], ◌∷◌, ◌++◌, length, get_or, take, drop, drop_of_length-le, Some, None, Ok, Err, sym, refl, ap, ◌∙◌, ap₂, arith}
 use Rattle.std.proofs.lemmas.List.{take_at, length-take-le}
 use Rattle.std.proofs.lemmas.List.Sums.{sum_by-cons, sum_by_push, sum_by_more_le}
 use Rattle.refusal.specs.declared.refusal.Refusal.TheVariants.{NoSpace}
@@ -8,6 +8,8 @@ use Rattle.roll.specs.Roll.{Meaning, Entry, text, count, entry, first, append_an
 use Rattle.refusal.specs.Refusals.{fault}
 use Rattle.roll.proofs.Memories.{same_below, written_there, part_length}
 use Rattle.roll.proofs.Rolls.{Takes, taken, after_is, too_dear}
+use Rattle.pocket.specs.declared.pocket.Pocket.{Pocket}
+use Rattle.pocket.specs.Held.{roll_of}
 use Rattle.pocket.specs.Pocket.{paged, paged_all, entries_at, pocket_charge, pocket}
 use Rattle.pocket.specs.PocketLaws.{entries-count, charge_is, paged_many}
 
@@ -84,8 +86,29 @@ module _ (name : ℕ) (bytes ns t : List ℕ) (whole : length bytes ≡ 4096) (s
   pub pocket_after : append_after (pocket name bytes ns) t ≡ pocket name (written used t bytes) (ns ++ length t ∷ [])
   pocket_after = after_is (pocket name bytes ns) t _ (taken (pocket name bytes ns) t pocket_takes) ∙ sym pocket_grown
 
--- the pages left are too few for a text
-pub pocket_no_space : (name : ℕ) (bytes ns t : List ℕ) → length t < 513 → paged_all ns ≤ 4096 → 4096 - paged_all ns < paged (length t)
-    → append_answer (pocket name bytes ns) t ≡ Err (fault NoSpace 0 (count (pocket name bytes ns)))
-pocket_no_space name bytes ns t short fits l =
-    too_dear (pocket name bytes ns) t short (omega (arith, entries-count bytes 0 ns, paged_many ns)) (omega (arith, charge_is (length t) short))
+-- an append by what the program has: the lengths that it was lent, where their pages end, and what the pages of the text take
+module _ (p : Pocket) (lent t : List ℕ) (at need : ℕ) (same : lent ≡ p.lengths.items) (at-is : at ≡ paged_all lent) (need-is : need ≡ paged (length t)) (short : length t < 513) where
+  ends : at ≡ paged_all p.lengths.items
+  ends = at-is ∙ ap paged_all same
+
+  -- if the pages left are too few, it is refused
+  pub pocket_no_space : 4096 - at < need → append_answer (roll_of p) t ≡ Err (fault NoSpace 0 (count (roll_of p)))
+  pocket_no_space l =
+      too_dear (roll_of p) t short (omega (arith, entries-count p.bytes 0 p.lengths.items, paged_many p.lengths.items, ends, p.fits)) (omega (arith, charge_is (length t) short, ends, p.fits))
+
+  -- else they hold the text,
+  pub pocket_paid : need ≤ 4096 - at → paged_all p.lengths.items + paged (length t) ≤ 4096
+  pocket_paid l = omega (arith, ends, p.fits)
+
+  -- there is room for its length, and the append is accepted
+  pub pocket_room : need ≤ 4096 - at → length p.lengths.items < 64
+  pocket_room l = omega (arith, paged_many p.lengths.items, pocket_paid l)
+
+  pub pocket_taken : need ≤ 4096 - at → append_answer (roll_of p) t ≡ Ok (count (roll_of p))
+  pocket_taken l = taken (roll_of p) t (pocket_takes p.name p.bytes p.lengths.items t p.whole short (pocket_paid l))
+
+  -- and the roll after it is what the text written there and its length make
+  pub pocket_put : (next : List ℕ) → need ≤ 4096 - at → next ≡ written at t p.bytes → pocket p.name next (p.lengths.items ++ length t ∷ []) ≡ append_after (roll_of p) t
+  pocket_put next l w =
+      ap (λ b. pocket p.name b (p.lengths.items ++ length t ∷ [])) (w ∙ ap (λ k. written k t p.bytes) ends)
+      ∙ sym (pocket_after p.name p.bytes p.lengths.items t p.whole short (pocket_paid l))

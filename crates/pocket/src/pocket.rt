@@ -10,6 +10,7 @@ use tinyjambu::{Fault, Refusal};
 #[derive(Drop)]
 pub struct Pocket {
     name: u32,
+    // An array, since a pocket has fixed memory: an entry begins on a page, and its length tells how much of its pages it fills.
     bytes: [u8; 4096],
     lengths: ArrayVec<u32, 64>,
     ghost whole: { length bytes ≡ 4096 },
@@ -112,6 +113,8 @@ impl Roll for Pocket {
         Ok(self.part(entry)?.len())
     }
 
+    // Tape and floor ask the like, and `RollFull` besides. One function for every roll leads back to the impl, which the check does
+    // not cover (tried); one over the numbers would take six, and be no plainer.
     fn append(&mut self, text: &[u8]) -> Result<u32, Fault> {
         let entry = self.count();
         let len = text.len();

@@ -1,5 +1,5 @@
 -- The test for order, and the relation that it decides.
-use Rattle.std.proofs.Common.{◌≡◌, ℕ, zero, suc, ◌+◌, ◌-◌, ◌*◌, ◌<◌, ◌≤◌, Bool, true, false, leb, List, length, Some, None, Ok, Err, Result, sym, refl, ap, ◌∙◌, ⊎_elim, add-one, arith}
+use Rattle.std.proofs.Common.{◌≡◌, ℕ, zero, suc, ◌+◌, ◌-◌, ◌*◌, ◌<◌, ◌≤◌, ◌&&◌, Bool, true, false, leb, List, length, Some, None, Ok, Err, Result, sym, refl, ap, ◌∙◌, ap₂, ⊎_elim, add-one, arith}
 use Rattle.std.proofs.lemmas.Bool.{and_from, and_left, and_right, cases_lt, cond-true, cond-false, cond_both, eq-eqb, le-leb}
 use Rattle.std.specs.Result.{result_ok}
 use Rattle.refusal.specs.declared.refusal.Refusal.{Refusal}
@@ -8,7 +8,7 @@ use Rattle.roll.proofs.Rolls.{none_some}
 use Rattle.tape.specs.declared.extent.Extent.{Extent}
 use Rattle.tape.specs.Tape.{begin_of, end_of, count_of, last_end, InOrder, every, entry_ordered, tape_length, header_ordered, in_order}
 use Rattle.tape.specs.TapeLaws.{ordered}
-use Rattle.tape.specs.Judged.{extent_of, judged, judgement}
+use Rattle.tape.specs.Judged.{tape_length_answer, extent_of, judged, judgement}
 
 -- the next entry begins where this one ends
 pub begin_next : (memory : List ℕ) (i : ℕ) → begin_of memory (i + 1) ≡ end_of memory i
@@ -28,6 +28,10 @@ every_fails : (test : ℕ → Bool) (n i : ℕ) → i < n → test i ≡ false �
 every_fails test zero i h e = absurd (omega arith)
 every_fails test (suc n) i h e =
     ⊎_elim (λ l. and_right (test n) (every test n) (every_fails test n i l e)) (λ l. let same : i ≡ n = omega arith in and_left (test n) (every test n) (ap test (sym same) ∙ e)) (cases_lt i n)
+
+-- a length that is not refused is that of a tape
+pub length_passed : (n : ℕ) → Ok tt ≡ tape_length_answer n → tape_length n ≡ true
+length_passed n = cond_both (tape_length n) _ _ (λ r. Ok tt ≡ r → tape_length n ≡ true) (λ t e. t) (λ f e. absurd (cc e))
 
 -- a memory that passes each part of the test is in order, and one that fails any part is not
 module _ (memory : List ℕ) where
@@ -66,12 +70,19 @@ module _ (memory : List ℕ) where
       (every-each (entry_ordered memory) (count_of memory) (λ i h. and_from _ _ (le-leb _ _ (o.rising i h)) (le-leb _ _ (o.small i h))))
       (le-leb _ _ o.apart)
 
-  -- a judgement of a memory that is long enough and not too long
-  pub judged_ill : tape_length (length memory) ≡ true → in_order memory ≡ false → judgement memory ≡ Err TapeDisorder
-  judged_ill t f = cond-true _ _ _ t ∙ cond-false _ _ _ f
+  -- an entry is in order if the test of where the loop has it begin and end says so
+  pub entry_tested : (i begin end : ℕ) (b : Bool) → begin ≡ begin_of memory i → end ≡ end_of memory i → b ≡ (leb begin end && leb end (begin + 4096)) → entry_ordered memory i ≡ b
+  entry_tested i begin end b p q e = sym (e ∙ ap₂ (λ x y. leb x y && leb y (x + 4096)) p q)
 
-  pub judged_well : tape_length (length memory) ≡ true → in_order memory ≡ true → judgement memory ≡ Ok (extent_of memory)
-  judged_well t o = cond-true _ _ _ t ∙ cond-true _ _ _ o
+  -- a judgement of a memory of which the length was not refused
+  pub judged_ill : Ok tt ≡ tape_length_answer (length memory) → in_order memory ≡ false → Err TapeDisorder ≡ judgement memory
+  judged_ill e f = sym (cond-true _ _ _ (length_passed (length memory) e) ∙ cond-false _ _ _ f)
+
+  pub judged_well : Ok tt ≡ tape_length_answer (length memory) → header_ordered memory ≡ true → every (entry_ordered memory) (count_of memory) ≡ true
+      → last_end memory ≤ length memory - 4 * count_of memory → Ok (extent_of memory) ≡ judgement memory
+  judged_well e b c d =
+      let t = length_passed (length memory) e in
+      sym (cond-true _ _ _ t ∙ cond-true _ _ _ (passes t b c (le-leb _ _ d)))
 
   -- what holds of each answer of a judgement, where that may be given, holds of the judgement
   pub judgement_is : (P : Result Extent Refusal → Type 0) → (in_order memory ≡ true → P (Ok (extent_of memory)))

@@ -5,14 +5,12 @@ use Rattle.std.specs.Option.{option_map_or}
 use Rattle.std.proofs.lemmas.List.FromFn.{length-map-range_with_len, map-range_with_len_more}
 use Rattle.std.proofs.lemmas.Bool.{both_ways, cases_lt, cond-true, cond-false, cond_both}
 use Rattle.engine.specs.Bytes.{number, bytes}
-use Rattle.refusal.specs.declared.fault.Fault.{Fault}
 use Rattle.refusal.specs.declared.refusal.Refusal.{Refusal}
 use Rattle.roll.specs.Memory.{part, written}
-use Rattle.roll.specs.Roll.{Meaning, Entry, text, count, entry, first, append_answer, append_after, grown}
-use Rattle.refusal.specs.Refusals.{fault}
+use Rattle.roll.specs.Roll.{Meaning, Entry, text, count, entry, first, grown}
 use Rattle.roll.proofs.Memories.{written_length, written_there, written_below, written_above}
-use Rattle.roll.proofs.Rolls.{Takes, taken, after_is}
-use Rattle.tape.specs.Tape.{word, name_of, count_of, begin_of, end_of, last_end, InOrder, in_order, between, tape_entry, tape_charge, roll_of, ordered_tape, nothing, tape, entry_put, tape_put}
+use Rattle.roll.proofs.Rolls.{Takes}
+use Rattle.tape.specs.Tape.{word, name_of, count_of, begin_of, end_of, last_end, InOrder, in_order, between, tape_entry, tape_charge, roll_of, ordered_tape, nothing, tape, tape_put}
 use Rattle.tape.specs.Judged.{extent_of, judged, judgement}
 use Rattle.tape.specs.TapeLaws.{ordered, charge_is}
 use Rattle.tape.specs.declared.extent.Extent.{Extent}
@@ -80,11 +78,38 @@ judged_refuses memory r =
     refused : in_order memory ≡ false → (InOrder memory → ⊥) × (tape memory ≡ nothing)
     refused f = (λ o. both_ways (in_order memory) f (in_order_is memory o), tape-nothing memory f)
 
+-- a tape with an extent: its memory is in order, and what it says is so by that extent
+pub record Open (memory : List ℕ) (x : Extent) : Type 0 where
+  pub ordered : InOrder memory
+  pub extent_is : x ≡ extent_of memory
+  pub means : tape memory ≡ roll_of (name_of memory) (length memory - 4 * x.count - x.end) (tape memory).entries
+  pub count_is : count (tape memory) ≡ x.count
+  -- the ends of the entries have room, behind the last entry and the header
+  pub short : length memory ≤ 65536
+  pub noted : 4 * x.count ≤ length memory
+  pub apart : x.end ≤ length memory - 4 * x.count
+  pub late : 16 ≤ x.end
+
 -- what a tape keeps of its memory
 module _ (memory : List ℕ) (found : Option Extent) (known : found ≡ judged memory) where
-  -- it is in order, and this is its extent
-  pub opened_in_order : (x : Extent) → found ≡ Some x → InOrder memory × (x ≡ extent_of memory)
-  opened_in_order x e = judged_order memory x (sym known ∙ e)
+  -- with an extent it is such a tape
+  pub opened : (x : Extent) → found ≡ Some x → Open memory x
+  opened x e =
+      let j = judged_order memory x (sym known ∙ e) in
+      let o : InOrder memory = j.0 in
+      let m = tape_is memory o in
+      let n : x.count ≡ count_of memory = ap (λ y. y.count) j.1 in
+      let z : x.end ≡ last_end memory = ap (λ y. y.end) j.1 in
+      record {
+        ordered = o;
+        extent_is = j.1;
+        means = m ∙ ap₂ (roll_of (name_of memory)) (omega (arith, n, z)) (ap (λ r. r.entries) (sym m));
+        count_is = ap count m ∙ tape_count memory o ∙ sym n;
+        short = o.short;
+        noted = omega (arith, o.room);
+        apart = omega (arith, o.apart);
+        late = omega (arith, begins_late memory o (count_of memory) (omega arith));
+      }
 
   -- or it is a roll with nothing
   pub opened_nothing : found ≡ None → tape memory ≡ nothing
@@ -96,14 +121,14 @@ module _ (memory : List ℕ) (found : Option Extent) (known : found ≡ judged m
     where
       from : (o : Option Extent) → found ≡ o → option_map_or (λ x. 4097) o 0 ≡ (tape memory).bound
       from None e = ap (λ m. m.bound) (sym (opened_nothing e))
-      from (Some x) e = ap (λ m. m.bound) (sym (tape_is memory (opened_in_order x e).0))
+      from (Some x) e = ap (λ m. m.bound) (sym (opened x e).means)
 
   pub opened_count : option_map_or (λ x. x.count) found 0 ≡ count (tape memory)
   opened_count = from found refl
     where
       from : (o : Option Extent) → found ≡ o → option_map_or (λ x. x.count) o 0 ≡ count (tape memory)
       from None e = ap count (sym (opened_nothing e))
-      from (Some x) e = let o = opened_in_order x e in ap (λ y. y.count) o.1 ∙ sym (ap count (tape_is memory o.0) ∙ tape_count memory o.0)
+      from (Some x) e = sym (opened x e).count_is
 
 -- a tape is a bottom
 pub tape-floor : (memory : List ℕ) → (tape memory).floor ≡ 0
@@ -311,36 +336,3 @@ module _ (memory t : List ℕ) (o : InOrder memory) (short : length t < 4097) (r
         room = omega (arith, ap count m, tape_count memory o);
         paid = omega (arith, ap (λ x. x.space) m, charge_under memory (length t) (omega (arith, ap (λ x. x.bound) m)));
       }
-
--- the same as the program sees it, by the extent x that it has
-module _ (memory t : List ℕ) (x : Extent) (o : InOrder memory) (e : x ≡ extent_of memory) (short : length t < 4097) (free : x.count < 4095)
-    (cheap : length t + 4 ≤ (tape memory).space) (next : List ℕ) (wrote : next ≡ entry_put x.count x.end memory t) where
-  room : count_of memory < 4095
-  room = omega (arith, free, ap (λ y. y.count) e)
-
-  paid : length t + 4 ≤ length memory - 4 * count_of memory - last_end memory
-  paid = omega (arith, cheap, ap (λ m. m.space) (tape_is memory o))
-
-  -- the memory is as the definition says
-  pub append_put : next ≡ tape_put (tape memory) memory t
-  unfolding tape_put
-  append_put = wrote ∙ ap (λ y. entry_put y.count y.end memory t) e
-
-  -- it has the new extent
-  pub append_judged : (r : Extent) → r ≡ extent (x.count + 1) (x.end + length t) → Some r ≡ judged next
-  append_judged r p =
-      ap Some (p ∙ ap (λ y. extent (y.count + 1) (y.end + length t)) e) ∙ sym (ap judged append_put ∙ put_judged memory t o short room paid (tape memory))
-
-  -- the append is accepted, and the memory means the roll after it
-  pub append_taken : append_answer (tape memory) t ≡ Ok (count (tape memory))
-  append_taken = taken (tape memory) t (tape_takes memory t o short room paid)
-
-  pub append_means : tape next ≡ append_after (tape memory) t
-  append_means = ap tape append_put ∙ put_means memory t o short room paid (tape memory) ∙ sym (after_is (tape memory) t _ append_taken)
-
--- a refused append: its answer, and that nothing changes
-pub tape_refused : (memory t : List ℕ) (r : Refusal) (n : ℕ) (f : Fault) → f ≡ fault r 0 n → n ≡ count (tape memory)
-    → append_answer (tape memory) t ≡ Err (fault r (tape memory).floor (count (tape memory)))
-    → (Err f ≡ append_answer (tape memory) t) × (tape memory ≡ append_after (tape memory) t)
-tape_refused memory t r n f p q a =
-    (ap Err (p ∙ ap₂ (λ x y. fault r x y) (sym (tape-floor memory)) q) ∙ sym a, sym (after_is (tape memory) t _ a))

@@ -10,6 +10,10 @@ use Rattle.roll.specs.Roll.{Meaning}
 use Rattle.tape.specs.declared.extent.Extent.{Extent}
 use Rattle.tape.specs.Tape.{count_of, last_end, tape_length, in_order, roll_of}
 
+-- a refusal of a length that is not that of a tape
+abbrev pub tape_length_answer : ℕ → Result Unit Refusal
+tape_length_answer n = if tape_length n then Ok tt else Err TapeLength
+
 -- how many entries a memory in order has, and where the last ends
 abbrev pub extent_of : List ℕ → Extent
 extent_of memory = record { count = count_of memory; end = last_end memory }

@@ -1,6 +1,6 @@
 ghost use Rattle.std.specs.Prelude.{◌≡◌, ◌+◌, ◌*◌, ◌≤◌, ◌&&◌, length, nat_le};
-ghost use Rattle.tape.specs.Tape.{word, begin_of, end_of, tape_length, header_ordered};
-ghost use Rattle.tape.specs.Judged.{judgement};
+ghost use Rattle.tape.specs.Tape.{word, begin_of, end_of, header_ordered};
+ghost use Rattle.tape.specs.Judged.{tape_length_answer, judgement};
 
 use crate::extent::Extent;
 use byteorder::{ByteOrder, LittleEndian};
@@ -13,8 +13,8 @@ pub(crate) const HEADER: usize = 16;
 // The longest memory of a tape.
 const LONGEST_MEMORY: usize = 65536;
 
-// The number in the four bytes from `at` on, the least byte first. (The cipher has the like for itself: one for both would be public,
-// and no public function asks anything of its caller.)
+// The number in the four bytes from `at` on, the least byte first. (The cipher has the like for itself: one for both would be
+// public, and no public function asks anything of its caller.)
 pub(crate) fn word(memory: &[u8], at: usize) -> u32
     requires { at + 4 ≤ length memory.now }
     ensures { result ≡ word at memory.now }
@@ -42,11 +42,14 @@ pub(crate) fn begin_of(memory: &[u8], entry: u32) -> usize
     }
 }
 
-// Whether a length is that of a tape.
-pub(crate) fn is_tape_length(len: usize) -> bool
-    ensures { result ≡ tape_length len }
+// Refuses a length that is not that of a tape.
+pub(crate) fn check_tape_length(len: usize) -> Result<(), Refusal>
+    ensures { result ≡ tape_length_answer len }
 {
-    (HEADER..=LONGEST_MEMORY).contains(&len)
+    if !(HEADER..=LONGEST_MEMORY).contains(&len) {
+        return Err(Refusal::TapeLength);
+    }
+    Ok(())
 }
 
 // Whether the header of a memory that is long enough is in order.
@@ -74,9 +77,7 @@ pub(crate) fn judge(memory: &[u8]) -> Result<Extent, Refusal>
     ensures { result ≡ judgement memory.now }
 {
     let len = memory.len();
-    if !is_tape_length(len) {
-        return Err(Refusal::TapeLength);
-    }
+    check_tape_length(len)?;
     if !header_ordered(memory) {
         return Err(Refusal::TapeDisorder);
     }

@@ -86,7 +86,8 @@ impl Roll for Tape {
 
     ghost puts = { λ s t. refl };
 
-    // By no closure, here and in `space`: it would have to state what the read and the subtractions need.
+    // By no closure, here and in `space`: with `map_or` (tried) it has to state what the read and the subtractions need, and the
+    // proof did not close.
     fn name(&self) -> u32 {
         let Some(_) = self.extent else {
             return 0;
@@ -121,6 +122,8 @@ impl Roll for Tape {
         Ok(self.part(entry)?.len())
     }
 
+    // Pocket and floor ask the like. One function for every roll leads back to the impl, which the check does not cover (tried);
+    // one over the numbers would take six, and be no plainer.
     fn append(&mut self, text: &[u8]) -> Result<u32, Fault> {
         let entry = self.count();
         let Some(extent) = self.extent else {

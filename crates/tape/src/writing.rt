@@ -7,7 +7,8 @@ use crate::copying::copy_entry;
 use crate::extent::Extent;
 use byteorder::{ByteOrder, LittleEndian};
 
-// Writes a number into the four bytes from `at` on, the least byte first.
+// Writes a number into the four bytes from `at` on, the least byte first. (The cipher has the like for itself: one for both would
+// be public and ask something of its caller.)
 pub(crate) fn write_word(memory: &mut [u8], at: usize, number: u32)
     requires { at + 4 ≤ length memory.old }
     ensures { memory.new ≡ written at (bytes 4 number) memory.old }

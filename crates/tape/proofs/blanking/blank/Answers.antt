@@ -1,8 +1,9 @@
-use Rattle.std.proofs.Common.{ℕ, leb, List, length, sym, ap, ◌∙◌, arith}
+use Rattle.std.proofs.Common.{ℕ, leb, List, length, ap, ◌∙◌, arith}
 use Rattle.std.proofs.lemmas.Bool.{and_parts, leb-true}
 use Rattle.engine.specs.Bytes.{bytes}
 use Rattle.roll.specs.Memory.{written}
 use Rattle.tape.specs.Tape.{tape}
+use Rattle.tape.proofs.Orders.{length_passed}
 use Rattle.tape.proofs.Blanks.{header_written, blank_ordered, blank_means}
 use Rattle.tape.proofs.blanking.blank.Goals as goal
 
@@ -10,7 +11,7 @@ pub returns-clause-empty : goal.returns-clause-empty
 returns-clause-empty c =
     let memory : List ℕ = c.args.memory.now in
     let name = c.args.name in
-    let fits = sym c.if-not-is_tape_length.ensures in
+    let fits = length_passed (length memory) c.in_ok-check_tape_length.ensures in
     let both = and_parts (leb 16 (length memory)) (leb (length memory) 65536) fits in
     let long = leb-true _ _ both.0 in
     let short = leb-true _ _ both.1 in

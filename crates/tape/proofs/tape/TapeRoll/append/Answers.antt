@@ -1,95 +1,56 @@
-use Rattle.std.proofs.Common.{◌≡◌, ℕ, ◌+◌, ◌<◌, ◌≤◌, List, length, Ok, sym, refl, ap, ◌∙◌, arith}
-use Rattle.std.proofs.lemmas.List.{with_items_is}
-use Rattle.refusal.specs.declared.refusal.Refusal.TheVariants.{EntryTooLong, RollFull, NoSpace}
-use Rattle.roll.specs.Roll.{count}
-use Rattle.roll.proofs.Rolls.{too_long, too_many, too_dear}
-use Rattle.tape.specs.Tape.{count_of, tape, entry_put}
+use Rattle.std.proofs.Common.{length, Ok, sym, refl, ap, ◌∙◌, arith}
+use Rattle.tape.specs.Tape.{tape}
 use Rattle.tape.specs.Judged.{judged}
-use Rattle.tape.proofs.Tapes.{tape_is, tape_count, begins_late, bound-most, charge_under, opened_in_order, opened_nothing, append_put, append_judged, append_taken, append_means, tape_refused}
+use Rattle.tape.proofs.Tapes.{bound-most, opened, opened_nothing}
+use Rattle.tape.proofs.Appends.{long_refused, full_refused, dear_refused, appended}
 use Rattle.tape.proofs.tape.TapeRoll.append.Goals as goal
 
 pub returns-in_default : goal.returns-in_default
 returns-in_default c =
     let memory = c.args.self.now.items in
-    let t : List ℕ = c.args.text.now in
-    let known = c.self.invariant ∙ ap (λ v. judged v.items) c.self.view_is in
-    let bound = ap (λ m. m.bound) (opened_nothing memory _ known c.in_default.is) in
-    let d = tape_refused memory t EntryTooLong _ _ c.at.ensures c.count-entry.ensures (too_long (tape memory) t (omega (arith, bound))) in
+    let none = opened_nothing memory _ (c.self.invariant ∙ ap (λ v. judged v.items) c.self.view_is) c.in_default.is in
+    let d = long_refused memory c.args.text.now _ _ c.count-entry.ensures (omega (arith, ap (λ m. m.bound) none)) c.at.ensures in
     record { answer = d.0; after = d.1; stored = d.1; floors = refl; bytes = refl; refused = refl }
 
 pub returns-then-len : goal.returns-then-len
 returns-then-len c =
     let memory = c.args.self.now.items in
-    let t : List ℕ = c.args.text.now in
-    let a = too_long (tape memory) t (omega (arith, bound-most memory, c.if-len.true)) in
-    let d = tape_refused memory t EntryTooLong _ _ c.at-then-len.ensures c.count-entry.ensures a in
+    let d = long_refused memory c.args.text.now _ _ c.count-entry.ensures (omega (arith, bound-most memory, c.if-len.true)) c.at-then-len.ensures in
     record { answer = d.0; after = d.1; stored = d.1; floors = refl; bytes = refl; refused = refl }
 
 pub returns-then-extent-ge-MOST : goal.returns-then-extent-ge-MOST
 returns-then-extent-ge-MOST c =
     let memory = c.args.self.now.items in
-    let t : List ℕ = c.args.text.now in
-    let known = c.self.invariant ∙ ap (λ v. judged v.items) c.self.view_is in
-    let o = opened_in_order memory _ known _ c.in-Some.is in
-    let bound = ap (λ m. m.bound) (tape_is memory o.0) in
-    let n = ap count (tape_is memory o.0) ∙ tape_count memory o.0 in
-    let a = too_many (tape memory) t (omega (arith, bound, c.if-len.false)) (omega (arith, n, ap (λ x. x.count) o.1, c.if-extent-ge-MOST.true)) in
-    let d = tape_refused memory t RollFull _ _ c.at-then-extent-ge-MOST.ensures c.count-entry.ensures a in
+    let o = opened memory _ (c.self.invariant ∙ ap (λ v. judged v.items) c.self.view_is) _ c.in-Some.is in
+    let d = full_refused memory c.args.text.now _ _ c.count-entry.ensures _ o c.if-len.false c.if-extent-ge-MOST.true c.at-then-extent-ge-MOST.ensures in
     record { answer = d.0; after = d.1; stored = d.1; floors = refl; bytes = refl; refused = refl }
 
 pub returns-then-space-len : goal.returns-then-space-len
 returns-then-space-len c =
     let memory = c.args.self.now.items in
-    let t : List ℕ = c.args.text.now in
-    let known = c.self.invariant ∙ ap (λ v. judged v.items) c.self.view_is in
-    let o = opened_in_order memory _ known _ c.in-Some.is in
-    let bound = ap (λ m. m.bound) (tape_is memory o.0) in
-    let short : length t < (tape memory).bound = omega (arith, bound, c.if-len.false) in
-    let n = ap count (tape_is memory o.0) ∙ tape_count memory o.0 in
-    let a =
-    too_dear (tape memory) t short (omega (arith, n, ap (λ x. x.count) o.1))
-    (omega (arith, charge_under memory (length t) short, c.space.ensures, c.if-space-len.true)) in
-    let d = tape_refused memory t NoSpace _ _ c.at-then-space-len.ensures c.count-entry.ensures a in
+    let o = opened memory _ (c.self.invariant ∙ ap (λ v. judged v.items) c.self.view_is) _ c.in-Some.is in
+    let d =
+    dear_refused memory c.args.text.now _ _ c.count-entry.ensures _ o c.if-len.false c.if-extent-ge-MOST.false
+    (omega (arith, c.space.ensures, c.if-space-len.true)) c.at-then-space-len.ensures in
     record { answer = d.0; after = d.1; stored = d.1; floors = refl; bytes = refl; refused = refl }
 
 pub write_entry-requires : goal.write_entry-requires
 write_entry-requires c =
-    let memory = c.self.inside.memory.items in
-    let o = opened_in_order memory _ c.self.invariant _ c.in-Some.is in
+    let o = opened c.self.inside.memory.items _ c.self.invariant _ c.in-Some.is in
     let n = ap length c.deref_mut.ensures.value in
-    let x = ap (λ x. x.count) o.1 in
-    let y = ap (λ x. x.end) o.1 in
-    let space = ap (λ m. m.space) (tape_is memory o.0) in
-    let cheap = c.space.ensures ∙ ap (λ v. (tape v.items).space) (sym c.self.view_is) in
-    record {
-      memory = omega (arith, n, o.0.short);
-      entry = omega (arith, n, x, y, space, cheap, c.if-space-len.false, o.0.apart);
-      header = omega (arith, y, begins_late memory o.0 (count_of memory) (omega arith));
-    }
+    let space = ap (λ m. m.space) (sym o.means ∙ ap (λ v. tape v.items) c.self.view_is) in
+    record { memory = omega (arith, n, o.short); entry = omega (arith, n, o.apart, space, c.space.ensures, c.if-space-len.false); header = omega (arith, o.late) }
 
 pub invariant_of-self : goal.invariant_of-self
 invariant_of-self c =
-    let s = c.self.inside in
-    let memory = c.args.self.now.items in
-    let t : List ℕ = c.args.text.now in
-    let x = c.in-Some.extent in
-    let o = opened_in_order memory _ (c.self.invariant ∙ ap (λ v. judged v.items) c.self.view_is) x c.in-Some.is in
-    let cheap : length t + 4 ≤ (tape memory).space = omega (arith, c.space.ensures, c.if-space-len.false) in
-    let long : length c.write_entry.new.memory ≡ s.memory.len = omega (arith, c.write_entry.auto.memory, c.deref_mut.ensures.len) in
-    let wrote = with_items_is s.memory _ long ∙ c.write_entry.ensures.after ∙ ap (λ m. entry_put x.count x.end m t) (c.deref_mut.ensures.value ∙ ap (λ v. v.items) c.self.view_is) in
-    append_judged memory t x o.0 o.1 c.if-len.false c.if-extent-ge-MOST.false cheap _ wrote _ c.write_entry.ensures.extent
+    let a =
+    appended c.self.inside.memory _ _ _ _ _ _ c.args.text.now c.self.view_is c.self.invariant c.in-Some.is c.if-len.false c.if-extent-ge-MOST.false
+    (omega (arith, c.space.ensures, c.if-space-len.false)) c.deref_mut.ensures.value c.write_entry.auto.memory c.write_entry.ensures.after c.write_entry.ensures.extent in
+    a.known
 
 pub returns : goal.returns
 returns c =
-    let s = c.self.inside in
-    let memory = c.args.self.now.items in
-    let t : List ℕ = c.args.text.now in
-    let x = c.in-Some.extent in
-    let o = opened_in_order memory _ (c.self.invariant ∙ ap (λ v. judged v.items) c.self.view_is) x c.in-Some.is in
-    let cheap : length t + 4 ≤ (tape memory).space = omega (arith, c.space.ensures, c.if-space-len.false) in
-    let long : length c.write_entry.new.memory ≡ s.memory.len = omega (arith, c.write_entry.auto.memory, c.deref_mut.ensures.len) in
-    let wrote = with_items_is s.memory _ long ∙ c.write_entry.ensures.after ∙ ap (λ m. entry_put x.count x.end m t) (c.deref_mut.ensures.value ∙ ap (λ v. v.items) c.self.view_is) in
-    let e = append_taken memory t x o.0 o.1 c.if-len.false c.if-extent-ge-MOST.false cheap _ wrote in
-    let grew = append_means memory t x o.0 o.1 c.if-len.false c.if-extent-ge-MOST.false cheap _ wrote in
-    let put = append_put memory t x o.0 o.1 c.if-len.false c.if-extent-ge-MOST.false cheap _ wrote in
-    record { answer = ap Ok c.count-entry.ensures ∙ sym e; after = grew; stored = grew; floors = refl; bytes = put; refused = tt }
+    let a =
+    appended c.self.inside.memory _ _ _ _ _ _ c.args.text.now c.self.view_is c.self.invariant c.in-Some.is c.if-len.false c.if-extent-ge-MOST.false
+    (omega (arith, c.space.ensures, c.if-space-len.false)) c.deref_mut.ensures.value c.write_entry.auto.memory c.write_entry.ensures.after c.write_entry.ensures.extent in
+    record { answer = ap Ok c.count-entry.ensures ∙ sym a.answer; after = a.means; stored = a.means; floors = refl; bytes = a.put; refused = tt }

@@ -1,4 +1,4 @@
-use Rattle.std.proofs.Common.{◌≡◌, ℕ, ap, ◌∙◌, rules}
+use Rattle.std.proofs.Common.{◌≡◌, ap, ◌∙◌, rules}
 use Rattle.std.specs.Option.{option_map_or}
 use Rattle.tape.specs.Tape.{tape}
 use Rattle.tape.specs.declared.extent.Extent.{Extent}
@@ -8,6 +8,5 @@ use Rattle.tape.proofs.tape.TapeRoll.bound.Goals as goal
 pub returns : goal.returns
 returns c =
     let s = c.self.inside in
-    let number : Extent → ℕ = λ x. 4097 in
-    let e : c.map_or.result ≡ option_map_or number s.extent 0 = search rules in
+    let e : c.map_or.result ≡ option_map_or (λ (x : Extent). 4097) s.extent 0 = search rules in
     e ∙ opened_bound s.memory.items s.extent c.self.invariant ∙ ap (λ v. (tape v.items).bound) c.self.view_is

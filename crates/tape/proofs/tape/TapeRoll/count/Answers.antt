@@ -1,4 +1,4 @@
-use Rattle.std.proofs.Common.{◌≡◌, ℕ, ap, ◌∙◌, rules}
+use Rattle.std.proofs.Common.{◌≡◌, ap, ◌∙◌, rules}
 use Rattle.std.specs.Option.{option_map_or}
 use Rattle.roll.specs.Roll.{count}
 use Rattle.tape.specs.Tape.{tape}
@@ -9,6 +9,5 @@ use Rattle.tape.proofs.tape.TapeRoll.count.Goals as goal
 pub returns : goal.returns
 returns c =
     let s = c.self.inside in
-    let number : Extent → ℕ = λ x. x.count in
-    let e : c.map_or.result ≡ option_map_or number s.extent 0 = search rules in
+    let e : c.map_or.result ≡ option_map_or (λ (x : Extent). x.count) s.extent 0 = search rules in
     e ∙ opened_count s.memory.items s.extent c.self.invariant ∙ ap (λ v. count (tape v.items)) c.self.view_is
