@@ -131,9 +131,10 @@ module _ (l : Layer) (m : Meaning) (i n : ℕ) (f : Fault) (out : List ℕ) wher
       (s.0 ∙ z, s.1)
 
   -- it is broken where it broke below
-  pub reads_broken : Lawful m → read_answer m i 4096 ≡ Err f → length_answer (raised l m) i ≡ Ok n → n ≤ length out
+  pub reads_broken : (long read : Result ℕ Fault) → Lawful m → long ≡ length_answer (raised l m) i → long ≡ Ok n → n ≤ length out → read ≡ read_answer m i 4096 → read ≡ Err f
       → (read_answer (raised l m) i (length out) ≡ Err f) × (read_out (raised l m) i out ≡ replicate (length out) 0)
-  reads_broken w e len room = broken_by (entry m i) refl (λ x h. entries_fit m i x w h) e (ap (measured (raised l m) i) (sym (entry-raised l m i)) ∙ len) room
+  reads_broken long read w p len room q e =
+      broken_by (entry m i) refl (λ x h. entries_fit m i x w h) (sym q ∙ e) (ap (measured (raised l m) i) (sym (entry-raised l m i)) ∙ (sym p ∙ len)) room
 
 -- what stands in a roll where a read of it into 4,096 bytes is not refused is a text
 is_text : (m : Meaning) (i k room : ℕ) (o : Option Entry) → ((e : Entry) → o ≡ Some e → entry_length e ≤ 4096) → room ≡ 4096 → said m i room o ≡ Ok k
@@ -223,9 +224,11 @@ module _ (l : Layer) (m : Meaning) (i k : ℕ) (c out : List ℕ) (b : Below m i
   reads_shut e = read_broken (raised l m) i out (above m) (length c - 8) (entry_is None e) (omega (arith, b.long))
 
 -- a read that opens what it read below into the first bytes of the buffer, by what the program has: the length of the entry and that of what was read,
--- the number of the floor, nonce and data of the label, and the buffer that it read into
-module _ (l : Layer) (m : Meaning) (i len k f : ℕ) (n ad s out : List ℕ) (w : Lawful m) (len-is : length_answer (raised l m) i ≡ Ok len) (room : len ≤ length out)
-    (s-is : s ≡ read_out m i zeros) (k-is : read_answer m i 4096 ≡ Ok k) (f-is : f ≡ (raised l m).floor) (n-is : n ≡ nonce m.name (above m) i) (ad-is : ad ≡ l.kind ∷ []) where
+-- and the answers that gave them, the number of the floor, nonce and data of the label, and the buffer that it read into
+module _ (l : Layer) (m : Meaning) (i len k f : ℕ) (n ad s out : List ℕ) (long read : Result ℕ Fault) (w : Lawful m)
+    (long-is : long ≡ length_answer (raised l m) i) (len-is : long ≡ Ok len) (room : len ≤ length out)
+    (s-is : s ≡ read_out m i zeros) (read-is : read ≡ read_answer m i 4096) (k-is : read ≡ Ok k)
+    (f-is : f ≡ (raised l m).floor) (n-is : n ≡ nonce m.name f i) (ad-is : ad ≡ l.kind ∷ []) where
   -- what it opens, and where to
   abbrev stored : List ℕ
   stored = take k s
@@ -235,11 +238,11 @@ module _ (l : Layer) (m : Meaning) (i len k f : ℕ) (n ad s out : List ℕ) (w 
 
   -- that stands below
   there : Below m i k stored
-  there = below m i k s w s-is k-is
+  there = below m i k s w s-is (sym read-is ∙ k-is)
 
   -- and is 8 bytes longer than the entry
   less : len ≡ k - 8
-  less = ok_one (sym len-is ∙ length_less l m i k (length_given m i (text stored) there.stands ∙ ap Ok there.long))
+  less = ok_one (sym len-is ∙ long-is ∙ length_less l m i k (length_given m i (text stored) there.stands ∙ ap Ok there.long))
 
   -- for which there is just enough room
   front_long : length front ≡ length stored - 8
@@ -251,21 +254,25 @@ module _ (l : Layer) (m : Meaning) (i len k f : ℕ) (n ad s out : List ℕ) (w 
 
   -- it is opened under the label of the floor
   under : opened l.key (nonce m.name (above m) i) (l.kind ∷ []) stored ≡ opened l.key n ad stored
-  under = ap₂ (λ x y. opened l.key x y stored) (sym n-is) (sym ad-is)
+  under = ap₂ (λ x y. opened l.key x y stored) (ap (λ x. nonce m.name x i) (sym (f-is ∙ raised-floor l m)) ∙ sym n-is) (sym ad-is)
+
+  -- and the nonce has twelve bytes
+  twelve : length n ≡ 12
+  twelve = ap length n-is
 
   -- where that is refused, the entry is broken at this floor
-  pub read_shut : is_ok (open_answer l.key n ad stored front) ≡ false
+  pub read_shut : (r : Result ℕ Fault) → r ≡ open_answer l.key n ad stored front → is_ok r ≡ false
       → (read_answer (raised l m) i (length out) ≡ Err (fault Broken f i)) × (read_out (raised l m) i out ≡ replicate (length out) 0)
   unfolding raised
-  read_shut e =
-      let o = open_shut l.key n ad stored front (ap length n-is) data-fits (omega (arith, there.long, there.short)) front_long e in
+  read_shut r p e =
+      let o = open_shut l.key n ad stored front twelve data-fits (omega (arith, there.long, there.short)) front_long (ap is_ok (sym p) ∙ e) in
       let d = reads_shut l m i k stored out there (omega (arith, less)) (under ∙ o) in
       (d.0 ∙ ap (λ x. Err (fault Broken x i)) (sym f-is), d.1)
 
   -- else the text stands in those bytes
-  pub read_opened : is_ok (open_answer l.key n ad stored front) ≡ true
+  pub read_opened : (r : Result ℕ Fault) → r ≡ open_answer l.key n ad stored front → is_ok r ≡ true
       → (read_answer (raised l m) i (length out) ≡ Ok len) × (read_out (raised l m) i out ≡ open_out l.key n ad stored front ++ drop (len - 0) out)
-  read_opened e =
-      let o = open_given l.key n ad stored front (ap length n-is) data-fits (omega (arith, there.long, there.short)) front_long e in
+  read_opened r p e =
+      let o = open_given l.key n ad stored front twelve data-fits (omega (arith, there.long, there.short)) front_long (ap is_ok (sym p) ∙ e) in
       let d = reads_opened l m i k stored out there (omega (arith, less)) _ (under ∙ o) in
       (d.0 ∙ ap Ok (sym less), d.1 ∙ ap (λ x. open_out l.key n ad stored front ++ drop x out) (omega (arith, less)))

@@ -2,22 +2,18 @@ use Rattle.std.proofs.Common.{◌≡◌, ◌-◌, true, false, ◌++◌, length,
 use Rattle.std.proofs.lemmas.Result.{err_from_is_err_and}
 use Rattle.refusal.specs.declared.refusal.Refusal.TheVariants.{Broken}
 use Rattle.refusal.specs.Refusals.{fault}
-use Rattle.roll.specs.Roll.{Meaning}
-use Rattle.roll.specs.Floor.{Layer, nonce, above}
-use Rattle.floor.specs.Laid.{layer}
-use Rattle.floor.proofs.Floors.{raised-floor, reads_broken, read_shut, read_opened}
+use Rattle.floor.specs.Own.{own_layer}
+use Rattle.floor.proofs.Floors.{reads_broken, read_shut, read_opened}
 use Rattle.floor.proofs.floor.FloorRoll.read.Goals as goal
 
 -- what broke below is refused as it was there
 pub returns-in_err-n : goal.returns-in_err-n
 returns-in_err-n g c =
     let s = c.args.self.now in
-    let l : Layer = layer (g.E.Engine.key s.engine) s.kind in
-    let m : Meaning = g.R.Roll.meaning s.below in
     let passed = err_from_is_err_and c.from_residual-in_err-n.result c.from_residual-in_err-n.ensures.1 in
     let done =
-    reads_broken l m c.args.entry c.in_ok-len.len _ c.args.out.now (g.R.Roll.lawful_top s.below) (sym c.read.ensures.answer ∙ c.in_err-n.was)
-    (sym c.length.ensures ∙ c.in_ok-len.was) c.if-guard-len.false in
+    reads_broken (own_layer g.E.Engine.key s) (g.R.Roll.meaning s.below) c.args.entry _ _ c.args.out.now _ _ (g.R.Roll.lawful_top s.below)
+    c.length.ensures c.in_ok-len.was c.if-guard-len.false c.read.ensures.answer c.in_err-n.was in
     record {
       answer = passed.1 ∙ ap Err passed.2 ∙ sym done.0;
       out = c.drop-guard-in_err-n.ensures ∙ sym done.1;
@@ -31,14 +27,11 @@ returns-in_err-n g c =
 pub returns-in_err-map_err : goal.returns-in_err-map_err
 returns-in_err-map_err g c =
     let s = c.args.self.now in
-    let l : Layer = layer (g.E.Engine.key s.engine) s.kind in
-    let m : Meaning = g.R.Roll.meaning s.below in
-    let here : c.floor-floor.result ≡ above m = c.floor-floor.ensures ∙ raised-floor l m in
     let shut : is_ok c.open.result ≡ false = search rules in
     let done =
-    read_shut l m c.args.entry c.in_ok-len.len c.in_ok-n.n c.floor-floor.result _ _ c.read.new.out c.args.out.now
-    (g.R.Roll.lawful_top s.below) (sym c.length.ensures ∙ c.in_ok-len.was) c.if-guard-len.false c.read.ensures.out (sym c.read.ensures.answer ∙ c.in_ok-n.was)
-    c.floor-floor.ensures (c.label-label.ensures.nonce ∙ ap (λ f. nonce m.name f c.args.entry) here) c.label-label.ensures.data (ap is_ok (sym c.open.ensures.answer) ∙ shut) in
+    read_shut (own_layer g.E.Engine.key s) (g.R.Roll.meaning s.below) c.args.entry _ _ _ _ _ c.read.new.out c.args.out.now _ _ (g.R.Roll.lawful_top s.below)
+    c.length.ensures c.in_ok-len.was c.if-guard-len.false c.read.ensures.out c.read.ensures.answer c.in_ok-n.was
+    c.floor-floor.ensures c.label-label.ensures.nonce c.label-label.ensures.data _ c.open.ensures.answer shut in
     let passed = err_from_is_err_and c.from_residual-in_err-map_err.result c.from_residual-in_err-map_err.ensures.1 in
     let what : c.in_err-map_err.field-0.0 ≡ fault Broken c.floor-floor.result c.args.entry = search rules in
     let wiped : c.drop-guard-in_err-map_err.new.self.0 ≡ replicate (length c.args.out.now) 0 = search rules in
@@ -51,17 +44,15 @@ returns-in_err-map_err g c =
       bytes = search rules;
     }
 
+-- and what it opens is given out
 pub returns : goal.returns
 returns g c =
     let s = c.args.self.now in
-    let l : Layer = layer (g.E.Engine.key s.engine) s.kind in
-    let m : Meaning = g.R.Roll.meaning s.below in
-    let here : c.floor-floor.result ≡ above m = c.floor-floor.ensures ∙ raised-floor l m in
     let opened : is_ok c.open.result ≡ true = search rules in
     let done =
-    read_opened l m c.args.entry c.in_ok-len.len c.in_ok-n.n c.floor-floor.result _ _ c.read.new.out c.args.out.now
-    (g.R.Roll.lawful_top s.below) (sym c.length.ensures ∙ c.in_ok-len.was) c.if-guard-len.false c.read.ensures.out (sym c.read.ensures.answer ∙ c.in_ok-n.was)
-    c.floor-floor.ensures (c.label-label.ensures.nonce ∙ ap (λ f. nonce m.name f c.args.entry) here) c.label-label.ensures.data (ap is_ok (sym c.open.ensures.answer) ∙ opened) in
+    read_opened (own_layer g.E.Engine.key s) (g.R.Roll.meaning s.below) c.args.entry _ _ _ _ _ c.read.new.out c.args.out.now _ _ (g.R.Roll.lawful_top s.below)
+    c.length.ensures c.in_ok-len.was c.if-guard-len.false c.read.ensures.out c.read.ensures.answer c.in_ok-n.was
+    c.floor-floor.ensures c.label-label.ensures.nonce c.label-label.ensures.data _ c.open.ensures.answer opened in
     let whole : c.keep.new.self.0 ≡ c.open.new.out ++ drop (c.in_ok-len.len - 0) c.args.out.now = c.keep.ensures in
     record {
       answer = sym done.0;
