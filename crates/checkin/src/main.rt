@@ -11,7 +11,7 @@ use crate::failures::failure;
 use crate::pocket_calls::work_pocket;
 use crate::sealed_bytes::all_zero;
 use crate::studio_key::read_key;
-use anyhow::{bail, ensure};
+use anyhow::{Context, bail, ensure};
 use hexadecimal::Hex;
 use roll::{Kind, Label, Nonce};
 use std::fs;
@@ -56,10 +56,11 @@ fn check_in(rt: &(impl Files + Print + AllocGlobal), key: Key, scene: &[u8]) -> 
     fs::write(rt, SEALED_FILE, sealed.as_slice()).map_err(|error| failure(SEALED_FILE, error))?;
     let len = sealed.len();
     println!(rt; "{SEALED_FILE}: sealed with the word engine and written, {len} bytes")?;
-    let Some(tag) = sealed.last_chunk::<8>() else {
-        bail!("the sealed file has no tag");
-    };
-    let tag = Hex(tag);
+    let tag = Hex(
+        sealed
+            .last_chunk::<8>()
+            .context("the sealed file has no tag")?,
+    );
     println!(rt; "{SEALED_FILE}: its last 8 bytes are the tag {tag}")?;
     Ok(())
 }
@@ -93,9 +94,7 @@ fn check_altered(
     sealed: &mut [u8],
 ) -> anyhow::Result<()> {
     let heap = rt.alloc();
-    let Some(at) = altered(sealed) else {
-        bail!("the sealed file is empty");
-    };
+    let at = altered(sealed).context("the sealed file is empty")?;
     println!(rt; "{SEALED_FILE}: byte {at} of what was read is altered by its lowest bit")?;
     let mut out = vec![in heap; 0xaau8; sealed.len()]?;
     let len = out.len();

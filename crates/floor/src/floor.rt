@@ -26,10 +26,9 @@ const TAG: u32 = 8;
 const HIGHEST: u32 = 65535;
 
 impl<R: Roll, E: Engine> Floor<R, E> {
-    // The number that a text will have as an entry, or why it is refused at this floor. Tape and pocket ask the like in their appends.
-    // One function for every roll, called in an impl of the trait, would lead back to the impl, which the check does not cover (tried).
-    // One over the numbers is no plainer: it would take six of them, a pocket is never full by its count, and the length is cast only
-    // behind the test that makes it small.
+    // The number that a text will have as an entry, or why it is refused at this floor. (Tape and pocket ask the like in their appends.
+    // One function for every roll, called in an impl of the trait, leads back to the impl, which the check does not cover: it was
+    // tried. One over the numbers would take six of them, of which a pocket has no use for one, and so be no plainer.)
     fn admit(&self, floor: u32, text: &[u8]) -> Result<u32, Fault>
         requires { floor ≡ above (R.Roll.meaning self.now.below) }
         ensures { result ≡ append_answer (raised (own_layer E.key self.now) (R.Roll.meaning self.now.below)) text.now }

@@ -1,7 +1,7 @@
 #![tactic(auto)]
 
-// The calls of `host`, exported for C: a crate is a library or a static library, so they stand twice. A slice passes as a pointer and
-// a length; include/vurshade.h documents them.
+// The calls of `host`, exported for C: a crate is a library or a static library, so they stand twice. A slice passes as a pointer
+// and a length; include/vurshade.h documents them.
 ghost use Rattle.std.specs.Prelude.{◌≡◌};
 ghost use Rattle.host.specs.Host.{signed, host_seal_answer, host_seal_out, host_open_answer, host_open_out};
 

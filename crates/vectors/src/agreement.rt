@@ -13,7 +13,8 @@ fn gave(answer: Result<usize, Fault>, out: &[u8], bytes: &[u8]) -> bool
     answer == Ok(out.len()) && out == bytes
 }
 
-// Whether sealing the text of a case gives exactly its sealed bytes. What the engine writes is left in `out`, which is as long as those.
+// Whether sealing the text of a case gives exactly its sealed bytes. What the engine writes is left in `out`, which is as long as
+// those.
 fn seals<E: Engine>(engine: &mut E, case: &Case, out: &mut [u8]) -> bool
     ensures meant { IsTrue result → SealsTo (E.key engine.old) case.now }
     ensures same { E.key engine.new ≡ E.key engine.old }
@@ -22,7 +23,8 @@ fn seals<E: Engine>(engine: &mut E, case: &Case, out: &mut [u8]) -> bool
     gave(answer, out, &case.sealed)
 }
 
-// Whether opening the sealed bytes of a case gives exactly its text. What the engine writes is left in `out`, which is as long as that.
+// Whether opening the sealed bytes of a case gives exactly its text. What the engine writes is left in `out`, which is as long as
+// that.
 fn opens<E: Engine>(engine: &mut E, case: &Case, out: &mut [u8]) -> bool
     ensures meant { IsTrue result → OpensTo (E.key engine.old) case.now }
     ensures same { E.key engine.new ≡ E.key engine.old }

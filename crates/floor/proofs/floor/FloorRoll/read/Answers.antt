@@ -18,9 +18,6 @@ returns-in_err-n g c =
       answer = passed.1 ∙ ap Err passed.2 ∙ sym done.0;
       out = c.drop-guard-in_err-n.ensures ∙ sym done.1;
       same = search rules;
-      stored = search rules;
-      floors = search rules;
-      bytes = search rules;
     }
 
 -- what the floor cannot open is broken there
@@ -39,9 +36,6 @@ returns-in_err-map_err g c =
       answer = passed.1 ∙ ap Err (passed.2 ∙ what) ∙ sym done.0;
       out = wiped ∙ sym done.1;
       same = search rules;
-      stored = search rules;
-      floors = search rules;
-      bytes = search rules;
     }
 
 -- and what it opens is given out
@@ -58,7 +52,4 @@ returns g c =
       answer = sym done.0;
       out = whole ∙ ap (λ x. x ++ drop (c.in_ok-len.len - 0) c.args.out.now) c.open.ensures.out ∙ sym done.1;
       same = search rules;
-      stored = search rules;
-      floors = search rules;
-      bytes = search rules;
     }
