@@ -88,6 +88,7 @@ module _ (name : ℕ) (bytes ns t : List ℕ) (whole : length bytes ≡ 4096) (s
 
 -- an append by what the program has: the lengths that it was lent, where their pages end, and what the pages of the text take
 module _ (p : Pocket) (lent t : List ℕ) (at need : ℕ) (same : lent ≡ p.lengths.items) (at-is : at ≡ paged_all lent) (need-is : need ≡ paged (length t)) (short : length t < 513) where
+  -- the text goes where the pages in use end
   ends : at ≡ paged_all p.lengths.items
   ends = at-is ∙ ap paged_all same
 
@@ -96,14 +97,15 @@ module _ (p : Pocket) (lent t : List ℕ) (at need : ℕ) (same : lent ≡ p.len
   pocket_no_space l =
       too_dear (roll_of p) t short (omega (arith, entries-count p.bytes 0 p.lengths.items, paged_many p.lengths.items, ends, p.fits)) (omega (arith, charge_is (length t) short, ends, p.fits))
 
-  -- else they hold the text,
+  -- else they hold the text
   pub pocket_paid : need ≤ 4096 - at → paged_all p.lengths.items + paged (length t) ≤ 4096
   pocket_paid l = omega (arith, ends, p.fits)
 
-  -- there is room for its length, and the append is accepted
+  -- there is room for its length
   pub pocket_room : need ≤ 4096 - at → length p.lengths.items < 64
   pocket_room l = omega (arith, paged_many p.lengths.items, pocket_paid l)
 
+  -- the append is accepted
   pub pocket_taken : need ≤ 4096 - at → append_answer (roll_of p) t ≡ Ok (count (roll_of p))
   pocket_taken l = taken (roll_of p) t (pocket_takes p.name p.bytes p.lengths.items t p.whole short (pocket_paid l))
 
