@@ -12,7 +12,6 @@ use crate::pocket_calls::work_pocket;
 use crate::sealed_bytes::all_zero;
 use crate::studio_key::read_key;
 use anyhow::{Context, bail, ensure};
-use hexadecimal::Hex;
 use roll::{Kind, Label, Nonce};
 use std::fs;
 use std::rt::Files;
@@ -56,11 +55,8 @@ fn check_in(rt: &(impl Files + Print + AllocGlobal), key: Key, scene: &[u8]) -> 
     fs::write(rt, SEALED_FILE, sealed.as_slice()).map_err(|error| failure(SEALED_FILE, error))?;
     let len = sealed.len();
     println!(rt; "{SEALED_FILE}: sealed with the word engine and written, {len} bytes")?;
-    let tag = Hex(
-        sealed
-            .last_chunk::<8>()
-            .context("the sealed file has no tag")?,
-    );
+    let tag = sealed.last_chunk::<8>().context("the sealed file has no tag")?;
+    let tag = hex::encode(heap, tag.as_slice())?;
     println!(rt; "{SEALED_FILE}: its last 8 bytes are the tag {tag}")?;
     Ok(())
 }

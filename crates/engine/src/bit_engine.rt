@@ -27,6 +27,7 @@ impl BitEngine {
         let key = self.key.words();
         let words = key.in_use();
         let mut s = state;
+        // The number of a round says which word of the key and which bit of it: no place is counted beside it.
         for i in 0..count {
             s = bit_round(s, words[(i / 32) as usize % words.len()] >> (i % 32));
         }

@@ -18,9 +18,8 @@ fn pair(high: u8, low: u8) -> Option<u8>
     Some(16 * digit(high)? + digit(low)?)
 }
 
-// The bytes that a text spells, two digits a byte.
-// (The kit's `hex` may answer want of memory for an empty text, as this does not, and a proof from its definitions of digits and
-// pairs to ours is longer than these lines, of which none would be left for the test that swaps a pair's digits.)
+// The bytes that a text spells, two digits a byte. (The kit's `hex` would be no plainer: it may answer want of memory for an empty
+// text, which this may not, and speaks of digits and pairs by definitions of its own, from which a proof would have to lead to ours.)
 pub fn decode(heap: Global, text: &[u8]) -> Result<Vec<u8>, HexFault>
     ensures { MatchResult result (λ v. Spells text.now v.items) (λ e. Refuses e text.now) }
 {
@@ -29,10 +28,7 @@ pub fn decode(heap: Global, text: &[u8]) -> Result<Vec<u8>, HexFault>
     };
     let mut bytes = Vec::new(heap);
     for [high, low] in pairs {
-        let Some(byte) = pair(*high, *low) else {
-            return Err(HexFault::NotADigit);
-        };
-        bytes.push(byte)?;
+        bytes.push(pair(*high, *low).ok_or(HexFault::NotADigit)?)?;
     }
     Ok(bytes)
 }

@@ -11,6 +11,7 @@ pub enum HexFault {
     NoMemory,
 }
 
+// By hand: `thiserror` would derive it, but with no contract, and `decode` promises which fault it gives.
 impl<T: Drop> From<AllocFailed<T>> for HexFault {
     ghost from_gives = { λ _ r. r ≡ NoMemory };
 

@@ -1,16 +1,16 @@
 #![tactic(auto)]
 
 use std::io::Read;
-use tape::listing;
+use tape::{LONGEST_MEMORY, listing};
 
-// One byte more than the longest tape has: a longer input is refused by its length all the same.
-const MOST: u64 = 65537;
-
-// Lists the tape on standard input.
+// Lists the tape on standard input. It reads one byte more than the longest tape has: a longer input is refused by its length all the
+// same.
 fn run(rt: &(impl Input + Print + AllocGlobal)) -> anyhow::Result<()> {
     let heap = rt.alloc();
     let mut memory = Vec::new(heap);
-    rt.reader().take(MOST).read_to_end(&mut memory)?;
+    rt.reader()
+        .take(LONGEST_MEMORY as u64 + 1)
+        .read_to_end(&mut memory)?;
     let lines = listing(heap, memory)?;
     print!(rt; "{lines}")?;
     Ok(())

@@ -54,9 +54,10 @@ impl Pocket {
     fn part(&self, entry: u32) -> Result<&[u8], Fault>
         ensures { Finds (roll_of self.now) entry result }
     {
-        let Some(&len) = self.lengths.get(entry as usize) else {
-            return Err(Refusal::NoEntry.at(FLOOR, entry));
-        };
+        let len = *self
+            .lengths
+            .get(entry as usize)
+            .ok_or(Refusal::NoEntry.at(FLOOR, entry))?;
         let start = paged_all(&self.lengths[..entry as usize]);
         Ok(&self.bytes[start..start + len as usize])
     }

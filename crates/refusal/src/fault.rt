@@ -5,7 +5,8 @@ use crate::refusal::Refusal;
 use std::error::Error;
 use std::fmt;
 
-// A refusal, and where in a roll it came from: the floor and the entry number, 0 and 0 outside rolls, as every fault prints both.
+// A refusal, and where in a roll it came from: the floor and the entry number. They are 0 and 0 outside rolls and no `Option`, since
+// the printed form, which is fixed, has two numbers for every fault.
 #[derive(Clone, Copy, PartialEq, Eq, Debug)]
 pub struct Fault {
     pub refusal: Refusal,
@@ -18,11 +19,7 @@ impl From<Refusal> for Fault {
     ghost from_gives = { λ refusal fault. fault ≡ outside refusal };
 
     fn from(refusal: Refusal) -> Fault {
-        Fault {
-            refusal,
-            floor: 0,
-            entry: 0,
-        }
+        refusal.at(0, 0)
     }
 }
 

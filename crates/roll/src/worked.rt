@@ -64,9 +64,7 @@ pub fn work<R: Roll>(
     ensures bytes { OnOk result (R.Roll.image roll.new ≡ image_after_all R.Roll.writes (R.Roll.layers roll.old) (R.Roll.bottom roll.old) (R.Roll.image roll.old) (all_heard calls.now)) }
     ensures room { vec_len answers.old + length calls.now ≤ vec_capacity answers.old → vec_len texts.old + LONGEST * length calls.now ≤ vec_capacity texts.old → IsOk result }
 {
-    let Some(room) = calls.len().checked_mul(LONGEST) else {
-        return Err(AllocError);
-    };
+    let room = calls.len().checked_mul(LONGEST).ok_or(AllocError)?;
     answers.reserve(calls.len())?;
     texts.reserve(room)?;
     answers.clear();

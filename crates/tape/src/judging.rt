@@ -11,7 +11,7 @@ use tinyjambu::Refusal;
 pub(crate) const HEADER: usize = 16;
 
 // The longest memory of a tape.
-const LONGEST_MEMORY: usize = 65536;
+pub const LONGEST_MEMORY: usize = 65536;
 
 // The number in the four bytes from `at` on, the least byte first. (The cipher has the like for itself: one for both would be
 // public, and no public function asks anything of its caller.)
@@ -52,7 +52,8 @@ pub(crate) fn check_tape_length(len: usize) -> Result<(), Refusal>
     Ok(())
 }
 
-// Whether the header of a memory that is long enough is in order.
+// Whether the header of a memory that is long enough is in order. (A predicate, as its definition and the next one's are: `judge`
+// alone makes refusals of them.)
 fn header_ordered(memory: &[u8]) -> bool
     requires { 16 ≤ length memory.now }
     ensures { result ≡ header_ordered memory.now }
@@ -67,7 +68,7 @@ fn header_ordered(memory: &[u8]) -> bool
 
 // Whether an entry may begin and end so.
 fn entry_ordered(begin: usize, end: usize) -> bool
-    ensures { result ≡ (nat_le begin end && nat_le end (begin + 4096)) }
+    ensures { result ≡ (nat_le begin end && nat_le end (begin + LONGEST)) }
 {
     begin <= end && end - begin <= LONGEST
 }

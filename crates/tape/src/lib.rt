@@ -12,5 +12,6 @@ mod writing;
 
 pub use blanking::blank;
 pub use checking::check;
+pub use judging::LONGEST_MEMORY;
 pub use lines::listing;
 pub use tape::Tape;

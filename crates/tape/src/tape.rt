@@ -8,7 +8,7 @@ use crate::extent::Extent;
 use crate::finding::entry_part;
 use crate::judging::{judge, word};
 use crate::writing::write_entry;
-use roll::{FLOOR, MOST, Roll, give};
+use roll::{FLOOR, LONGEST, MOST, Roll, give};
 use std::marker::Model;
 use tinyjambu::{Fault, Refusal};
 
@@ -33,7 +33,7 @@ impl Model for Tape {
 }
 
 // Every entry is shorter than this.
-const BOUND: u32 = 4097;
+const BOUND: u32 = LONGEST as u32 + 1;
 
 impl Tape {
     // Opens a memory, whatever it holds: if it is not in order, as a roll with nothing.
@@ -126,9 +126,9 @@ impl Roll for Tape {
     // one over the numbers would take six, and be no plainer.
     fn append(&mut self, text: &[u8]) -> Result<u32, Fault> {
         let entry = self.count();
-        let Some(extent) = self.extent else {
-            return Err(Refusal::EntryTooLong.at(FLOOR, entry));
-        };
+        let extent = self
+            .extent
+            .ok_or(Refusal::EntryTooLong.at(FLOOR, entry))?;
         let len = text.len();
         if len >= BOUND as usize {
             return Err(Refusal::EntryTooLong.at(FLOOR, entry));

@@ -50,17 +50,15 @@ pub fn seal<E: Engine>(
 fn text_len(ad: usize, sealed: usize, room: usize) -> Result<usize, Refusal>
     ensures { MatchResult result (λ len. (length_check ad sealed room ≡ None) × (len + 8 ≡ sealed)) (λ refusal. length_check ad sealed room ≡ Some refusal) }
 {
-    let len = sealed.saturating_sub(8);
     check_limit(0, ad, Refusal::DataTooLong)?;
+    let len = sealed.checked_sub(8).ok_or(Refusal::SealedTooShort)?;
     check_limit(0, len, Refusal::TextTooLong)?;
-    if sealed < 8 {
-        return Err(Refusal::SealedTooShort);
-    }
     check_room(room, len)?;
     Ok(len)
 }
 
-// Whether two tags are the same, without an early exit: `==` stops where they first differ.
+// Whether two tags are the same. By a rule of the project the time that it takes tells nothing of them, so it goes through all of
+// both, where `==` stops at the first byte that differs.
 fn same_tag(made: [u8; 8], given: &[u8; 8]) -> bool
     ensures { result ≡ same made given.now }
 {
