@@ -1,9 +1,9 @@
 -- The bits of a key that is held in words.
-use Rattle.std.proofs.Common.{◌≡◌, ℕ, zero, suc, ◌+◌, ◌*◌, ◌/◌, ◌%◌, ◌^◌, ◌<◌, ◌≤◌, true, Ok, refl, List, [], ◌∷◌, ◌++◌, length, get_or, take, drop, sym, ap, ◌∙◌, ap₂, append-nil, mod-lt, zero-add, arith, length-drop, get_or-take, take-add}
+use Rattle.std.proofs.Common.{◌≡◌, ℕ, zero, suc, ◌+◌, ◌-◌, ◌*◌, ◌/◌, ◌%◌, ◌^◌, ◌<◌, ◌≤◌, true, Ok, refl, List, [], ◌∷◌, ◌++◌, length, get_or, take, drop, replicate, sym, ap, ◌∙◌, ap₂, append-nil, mod-lt, zero-add, arith, length-drop, get_or-take, take-add}
 use native.Mathlib.Nat.{div-add-mod}
 use lib.Arith.{mod-mul}
 use Rattle.std.proofs.ByRecursion.{All-take, All-drop}
-use Rattle.std.proofs.lemmas.List.{get_or_append_left, take_more, length-take-le, drop-drop}
+use Rattle.std.proofs.lemmas.List.{get_or_append_left, take_more, length-take-le, drop-drop, ext_get_or, get_or-drop, get_or-replicate, length-replicate}
 use Rattle.engine.specs.Permutation.{bit, key_bit}
 use Rattle.engine.specs.Bytes.{number, bytes, AllBytes, word_bytes, length-word_bytes}
 use Rattle.std.proofs.lemmas.Bool.Decides.{nat_tests}
@@ -61,6 +61,13 @@ filled ws bs zero small h l each = refl
 filled ws bs (suc n) small h l each =
     let e : suc n ≡ n + 1 = omega arith in
     rw e (filled_more ws bs n small (omega arith) (omega arith) (each n (omega arith)) (filled ws bs n small (omega arith) (omega arith) (λ j k. each j (omega arith))))
+
+-- the words past those that are read are 0
+pub rest_zero : (ws : List ℕ) (n : ℕ) → length ws ≡ 8 → ((j : ℕ) → j < 8 - n → get_or ws (n + j) 0 ≡ 0) → drop n ws ≡ replicate (8 - n) 0
+rest_zero ws n long each =
+    let m : length (drop n ws) ≡ 8 - n = length-drop n ws ∙ ap (λ k. k - n) long in
+    ext_get_or 0 (drop n ws) (replicate (8 - n) 0) (m ∙ sym (length-replicate (8 - n) 0))
+    (λ j l. let k : j < 8 - n = omega (arith, m) in get_or-drop n ws j 0 ∙ each j k ∙ sym (get_or-replicate (8 - n) j 0 0 k))
 
 -- some words are in use
 size_words-some : (s : KeySize) → 0 < size_words s
