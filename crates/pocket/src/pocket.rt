@@ -1,20 +1,26 @@
 ghost use Rattle.std.specs.Prelude.{◌≡◌, ◌≤◌, [], length, replicate, refl};
 ghost use Rattle.roll.specs.Giving.{Finds};
 ghost use Rattle.pocket.specs.Pocket.{paged, paged_all, pocket, pocket_writes};
+ghost use Rattle.pocket.specs.declared.pocket.TheConstants.{SIZE};
 
 use arrayvec::ArrayVec;
 use roll::{FLOOR, Roll, give};
 use tinyjambu::{Fault, Refusal};
+
+// A page, and the pages of a pocket, in bytes.
+const PAGE: usize = 64;
+
+const SIZE: usize = 4096;
 
 // A roll on 64 pages of 64 bytes of its own, in which each entry begins on a page of its own.
 #[derive(Drop)]
 pub struct Pocket {
     name: u32,
     // An array, since a pocket has fixed memory: an entry begins on a page, and its length tells how much of its pages it fills.
-    bytes: [u8; 4096],
+    bytes: [u8; SIZE],
     lengths: ArrayVec<u32, 64>,
-    ghost whole: { length bytes ≡ 4096 },
-    ghost fits: { paged_all lengths.items ≤ 4096 },
+    ghost whole: { length bytes ≡ SIZE },
+    ghost fits: { paged_all lengths.items ≤ SIZE },
 }
 
 // Every entry is shorter than this.
@@ -24,12 +30,12 @@ const BOUND: u32 = 513;
 fn paged(len: u32) -> usize
     ensures { result ≡ paged len }
 {
-    64 * (len as usize).div_ceil(64).max(1)
+    PAGE * (len as usize).div_ceil(PAGE).max(1)
 }
 
 // The bytes of the pages that entries of these lengths take, where the next entry begins.
 fn paged_all(lengths: &[u32]) -> usize
-    requires { paged_all lengths.now ≤ 4096 }
+    requires { paged_all lengths.now ≤ SIZE }
     ensures { result ≡ paged_all lengths.now }
 {
     lengths.iter().map(|&len| paged(len)).sum()
@@ -40,12 +46,12 @@ impl Pocket {
 
     // An empty pocket under a name.
     pub fn new(name: u32) -> Pocket
-        ensures empty { roll_of result ≡ pocket name (replicate 4096 0) [] }
-        ensures blank { pages_of result ≡ replicate 4096 0 }
+        ensures empty { roll_of result ≡ pocket name (replicate SIZE 0) [] }
+        ensures blank { pages_of result ≡ replicate SIZE 0 }
     {
         Pocket {
             name,
-            bytes: [0; 4096],
+            bytes: [0; SIZE],
             lengths: ArrayVec::new(),
         }
     }
@@ -54,10 +60,9 @@ impl Pocket {
     fn part(&self, entry: u32) -> Result<&[u8], Fault>
         ensures { Finds (roll_of self.now) entry result }
     {
-        let len = *self
-            .lengths
-            .get(entry as usize)
-            .ok_or(Refusal::NoEntry.at(FLOOR, entry))?;
+        let Some(&len) = self.lengths.get(entry as usize) else {
+            return Err(Refusal::NoEntry.at(FLOOR, entry));
+        };
         let start = paged_all(&self.lengths[..entry as usize]);
         Ok(&self.bytes[start..start + len as usize])
     }
@@ -99,7 +104,7 @@ impl Roll for Pocket {
     }
 
     fn space(&self) -> u32 {
-        4096 - paged_all(&self.lengths) as u32
+        (SIZE - paged_all(&self.lengths)) as u32
     }
 
     fn count(&self) -> u32 {
@@ -123,7 +128,7 @@ impl Roll for Pocket {
             return Err(Refusal::EntryTooLong.at(FLOOR, entry));
         }
         let at = paged_all(&self.lengths);
-        if 4096 - at < paged(len as u32) {
+        if SIZE - at < paged(len as u32) {
             return Err(Refusal::NoSpace.at(FLOOR, entry));
         }
         self.bytes[at..at + len].copy_from_slice(text);

@@ -55,7 +55,7 @@ pub(crate) fn check_tape_length(len: usize) -> Result<(), Refusal>
 // Whether the header of a memory that is long enough is in order. (A predicate, as its definition and the next one's are: `judge`
 // alone makes refusals of them.)
 fn header_ordered(memory: &[u8]) -> bool
-    requires { 16 ≤ length memory.now }
+    requires { HEADER ≤ length memory.now }
     ensures { result ≡ header_ordered memory.now }
 {
     let len = memory.len();

@@ -126,9 +126,9 @@ impl Roll for Tape {
     // one over the numbers would take six, and be no plainer.
     fn append(&mut self, text: &[u8]) -> Result<u32, Fault> {
         let entry = self.count();
-        let extent = self
-            .extent
-            .ok_or(Refusal::EntryTooLong.at(FLOOR, entry))?;
+        let Some(extent) = self.extent else {
+            return Err(Refusal::EntryTooLong.at(FLOOR, entry));
+        };
         let len = text.len();
         if len >= BOUND as usize {
             return Err(Refusal::EntryTooLong.at(FLOOR, entry));
