@@ -1,4 +1,5 @@
-use tinyjambu::{Engine, Fault, Key, WordEngine, seal};
+use crate::answer::refusal_of;
+use tinyjambu::{Engine, Fault, Key, Refusal, WordEngine, open, seal};
 
 // The nonce of every test, as bytes and as words.
 pub const NONCE: [u8; 12] = [1, 0, 0, 0, 2, 0, 0, 0, 3, 0, 0, 0];
@@ -13,8 +14,18 @@ pub fn zero_engine() -> WordEngine {
     WordEngine::new(Key::new())
 }
 
-// What an engine seals a text to, and 0 in each byte behind the sealed form.
-// An array: sealing writes into a lent slice, so a vector without heap would be filled with zeros first, and cut afterwards.
+// What refuses the sealing of a text into `out` under the key of zeros, if something does.
+pub fn try_seal(ad: &[u8], text: &[u8], out: &mut [u8]) -> Option<Refusal> {
+    refusal_of(seal(&mut zero_engine(), &NONCE, ad, text, out))
+}
+
+// What refuses the opening of sealed bytes into `out` under the key of zeros, if something does.
+pub fn try_open(ad: &[u8], sealed: &[u8], out: &mut [u8]) -> Option<Refusal> {
+    refusal_of(open(&mut zero_engine(), &NONCE, ad, sealed, out))
+}
+
+// What an engine seals a text to, and 0 in each byte behind the sealed form. (An array of the length that the caller names: it is
+// longer than the sealed form, so that a test sees what sealing leaves behind that.)
 pub fn sealed<E: Engine, const N: usize>(
     engine: &mut E,
     ad: &[u8],

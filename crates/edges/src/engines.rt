@@ -7,7 +7,7 @@ use tinyjambu::{BitEngine, Engine, Key, WordEngine, open};
 // Checks that an engine opens sealed bytes to a text.
 fn opens<E: Engine>(rt: &impl Abort, engine: &mut E, sealed: &[u8], text: &[u8]) {
     assert!(rt; text.len() <= 16);
-    // An array, of which the text may be a part: a vector without heap would be filled with zeros first, and cut afterwards.
+    // Longer than the text on purpose: opening writes the text at the start of the buffer.
     let mut back = [0u8; 16];
     assert_eq!(rt;
         refusal_of(open(engine, &NONCE, b"data", sealed, &mut back)),

@@ -1,42 +1,41 @@
-use crate::answer::refusal_of;
-use crate::common::{NONCE, zero_engine};
+use crate::common::{try_open, try_seal};
 use std::alloc::{AllocError, Global};
+use std::process::Abort;
 use std::test::Fail;
-use tinyjambu::{Refusal, open, seal};
+use tinyjambu::Refusal;
 
-// What sealing a text of so many bytes answers, and opening what was sealed, and whether the text came back.
-fn try_text(heap: Global, len: u32) -> Result<([Option<Refusal>; 2], bool), AllocError> {
+// What refuses a text of so many bytes in sealing and in opening. It comes back exactly if it is sealed. (A `u32`, to which 8 can be
+// added.)
+fn try_text(rt: &(impl Abort + AllocGlobal), len: u32) -> Result<[Option<Refusal>; 2], AllocError> {
+    let heap = rt.alloc();
     let len = len as usize;
     let text = vec![in heap; 7u8; len]?;
     let mut out = vec![in heap; 0u8; len + 8]?;
-    let sealing = refusal_of(seal(&mut zero_engine(), &NONCE, &[], &text, &mut out));
+    let sealing = try_seal(&[], &text, &mut out);
     let mut back = vec![in heap; 0u8; len]?;
-    let opening = refusal_of(open(&mut zero_engine(), &NONCE, &[], &out, &mut back));
-    Ok(([sealing, opening], back == text))
+    let opening = try_open(&[], &out, &mut back);
+    assert_eq!(rt; back == text, sealing.is_none());
+    Ok([sealing, opening])
 }
 
-// What sealing and opening with so many bytes of data answer.
+// What refuses so many bytes of data in sealing and in opening.
 fn try_data(heap: Global, len: usize) -> Result<[Option<Refusal>; 2], AllocError> {
     let ad = vec![in heap; 7u8; len]?;
     let mut out = [0u8; 8];
-    let sealing = refusal_of(seal(&mut zero_engine(), &NONCE, &ad, &[], &mut out));
-    let opening = refusal_of(open(&mut zero_engine(), &NONCE, &ad, &out, &mut []));
+    let sealing = try_seal(&ad, &[], &mut out);
+    let opening = try_open(&ad, &out, &mut []);
     Ok([sealing, opening])
 }
 
 #[test]
 fn text_of_65536_bytes_is_taken(rt: HostRuntime) -> Result<(), Fail> {
-    let (answers, back) = try_text(rt.alloc(), 65536)?;
-    assert_eq!(rt; answers, [None; 2]);
-    assert!(rt; back);
+    assert_eq!(rt; try_text(&rt, 65536)?, [None; 2]);
     Ok(())
 }
 
 #[test]
 fn text_of_65537_bytes_is_refused(rt: HostRuntime) -> Result<(), Fail> {
-    let (answers, back) = try_text(rt.alloc(), 65537)?;
-    assert_eq!(rt; answers, [Some(Refusal::TextTooLong); 2]);
-    assert!(rt; !back);
+    assert_eq!(rt; try_text(&rt, 65537)?, [Some(Refusal::TextTooLong); 2]);
     Ok(())
 }
 
@@ -58,15 +57,12 @@ fn data_of_65537_bytes_is_refused(rt: HostRuntime) -> Result<(), Fail> {
 #[test]
 fn seven_sealed_bytes_are_too_few(rt: HostRuntime) {
     assert_eq!(rt;
-        refusal_of(open(&mut zero_engine(), &NONCE, &[], &[0; 7], &mut [])),
+        try_open(&[], &[0; 7], &mut []),
         Some(Refusal::SealedTooShort)
     );
 }
 
 #[test]
 fn eight_sealed_bytes_that_fit_nothing_are_broken(rt: HostRuntime) {
-    assert_eq!(rt;
-        refusal_of(open(&mut zero_engine(), &NONCE, &[], &[0; 8], &mut [])),
-        Some(Refusal::Broken)
-    );
+    assert_eq!(rt; try_open(&[], &[0; 8], &mut []), Some(Refusal::Broken));
 }

@@ -29,7 +29,7 @@ fn nonce_words(nonce: &[u8]) -> Result<[u32; 3], Refusal>
 }
 
 // Seals a text with its associated data: writes the sealed form at the start of `out`, and answers its length.
-// Nonce, data, text and `out` come one by one, here and below, as the calls from C give them.
+// Nonce, data, text and `out` come one by one, here, in `open` and in `seal_pieces`, as the calls from C give them.
 pub fn seal<E: Engine>(
     engine: &mut E,
     nonce: &[u8],
