@@ -55,7 +55,9 @@ fn check_in(rt: &(impl Files + Print + AllocGlobal), key: Key, scene: &[u8]) -> 
     fs::write(rt, SEALED_FILE, sealed.as_slice()).map_err(|error| failure(SEALED_FILE, error))?;
     let len = sealed.len();
     println!(rt; "{SEALED_FILE}: sealed with the word engine and written, {len} bytes")?;
-    let tag = sealed.last_chunk::<8>().context("the sealed file has no tag")?;
+    let tag = sealed
+        .last_chunk::<8>()
+        .context("the sealed file has no tag")?;
     let tag = hex::encode(heap, tag.as_slice())?;
     println!(rt; "{SEALED_FILE}: its last 8 bytes are the tag {tag}")?;
     Ok(())
