@@ -4,8 +4,8 @@ use std::process::Abort;
 use std::test::Fail;
 use tinyjambu::Refusal;
 
-// What refuses a text of so many bytes in sealing and in opening. It comes back exactly if it is sealed. (A `u32`, to which 8 can be
-// added.)
+// What refuses a text of so many bytes in sealing and in opening. It comes back exactly if it is sealed. (A `u32`, to which 8
+// can be added.)
 fn try_text(rt: &(impl Abort + AllocGlobal), len: u32) -> Result<[Option<Refusal>; 2], AllocError> {
     let heap = rt.alloc();
     let len = len as usize;

@@ -12,8 +12,8 @@ pub(crate) struct Halves<'a> {
     pub second: &'a [u8],
 }
 
-// A session in full: seals the message of which data and text come in two pieces each, writes the sealed form at the start of `out`,
-// and answers its length. A refusal may leave what earlier pieces wrote.
+// A session in full: seals the message of which data and text come in two pieces each, writes the sealed form at the start of
+// `out`, and answers its length. A refusal may leave what earlier pieces wrote.
 pub(crate) fn in_pieces<E: Engine + Drop>(
     engine: E,
     nonce: [u32; 3],

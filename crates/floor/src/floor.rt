@@ -27,9 +27,9 @@ const HIGHEST: u32 = 65535;
 
 impl<R: Roll, E: Engine> Floor<R, E> {
     // The number that a text will have as an entry, or why it is refused at this floor. (Tape and pocket ask the like in their
-    // appends. One function for every roll, called in an impl of the trait, leads back to the impl, which the check does not cover:
-    // it was tried. One over floor, count, bound, most, space and charge is no plainer, and a pocket is never full by its count. The
-    // floor's number is passed in, since a call asks the roll below for it once.)
+    // appends. One function for every roll, called in an impl of the trait, leads back to the impl, which the check does not
+    // cover: it was tried. One over floor, count, bound, most, space and charge is no plainer, and a pocket is never full by
+    // its count. The floor's number is passed in, since a call asks the roll below for it once.)
     fn admit(&self, floor: u32, text: &[u8]) -> Result<u32, Fault>
         requires { floor ≡ above (R.Roll.meaning self.now.below) }
         ensures { result ≡ append_answer (raised (own_layer E.key self.now) (R.Roll.meaning self.now.below)) text.now }

@@ -18,8 +18,9 @@ fn pair(high: u8, low: u8) -> Option<u8>
     Some(16 * digit(high)? + digit(low)?)
 }
 
-// The bytes that a text spells, two digits a byte. (The kit's `hex` would be no plainer: it may answer want of memory for an empty
-// text, which this may not, and speaks of digits and pairs by definitions of its own, from which a proof would have to lead to ours.)
+// The bytes that a text spells, two digits a byte. (The kit's `hex` would be no plainer: it may answer want of memory for an
+// empty text, which this may not, and speaks of digits and pairs by definitions of its own, from which a proof would have to
+// lead to ours.)
 pub fn decode(heap: Global, text: &[u8]) -> Result<Vec<u8>, HexFault>
     ensures { MatchResult result (λ v. Spells text.now v.items) (λ e. Refuses e text.now) }
 {

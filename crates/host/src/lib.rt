@@ -17,8 +17,8 @@ fn as_signed(answer: Result<usize, Fault>) -> i64
     }
 }
 
-// Whole sealing under a key of bytes. This and `open_under` are functions of their own for `?`, so that what they say is said again of
-// the number that C gets. Key, nonce, data, text and `out` come one by one, as C gives them.
+// Whole sealing under a key of bytes. This and `open_under` are functions of their own for `?`, so that what they say is said
+// again of the number that C gets. Key, nonce, data, text and `out` come one by one, as C gives them.
 fn seal_under(
     key: &[u8],
     nonce: &[u8],

@@ -3,8 +3,8 @@
 use std::io::Read;
 use tape::{LONGEST_MEMORY, listing};
 
-// Lists the tape on standard input. It reads one byte more than the longest tape has: a longer input is refused by its length all the
-// same.
+// Lists the tape on standard input. It reads one byte more than the longest tape has: a longer input is refused by its length
+// all the same.
 fn run(rt: &(impl Input + Print + AllocGlobal)) -> anyhow::Result<()> {
     let heap = rt.alloc();
     let mut memory = Vec::new(heap);

@@ -95,6 +95,8 @@ impl Roll for Pocket {
         self.name
     }
 
+    // This, `length` and `read` stand in a tape too: as defaults of the trait they would be a floor's as well, which has no
+    // such part.
     fn floor(&self) -> u32 {
         FLOOR
     }
@@ -119,8 +121,8 @@ impl Roll for Pocket {
         Ok(self.part(entry)?.len())
     }
 
-    // Tape and floor ask the like, and `RollFull` besides. One function for every roll leads back to the impl, which the check does
-    // not cover (tried); one over the numbers would take six, and be no plainer.
+    // Tape and floor ask the like, and `RollFull` besides. One function for every roll leads back to the impl, which the check
+    // does not cover (tried); one over the numbers would take six, and be no plainer.
     fn append(&mut self, text: &[u8]) -> Result<u32, Fault> {
         let entry = self.count();
         let len = text.len();

@@ -5,8 +5,8 @@ use crate::refusal::Refusal;
 use std::error::Error;
 use std::fmt;
 
-// A refusal, and where in a roll it came from: the floor and the entry number. They are 0 and 0 outside rolls and no `Option`, since
-// the printed form, which is fixed, has two numbers for every fault.
+// A refusal, and where in a roll it came from: the floor and the entry number. They are 0 and 0 outside rolls and no `Option`,
+// since the printed form, which is fixed, has two numbers for every fault.
 #[derive(Clone, Copy, PartialEq, Eq, Debug)]
 pub struct Fault {
     pub refusal: Refusal,

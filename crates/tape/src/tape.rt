@@ -95,6 +95,8 @@ impl Roll for Tape {
         word(&self.memory, 0)
     }
 
+    // This, `length` and `read` stand in a pocket too: as defaults of the trait they would be a floor's as well, which has no
+    // such part.
     fn floor(&self) -> u32 {
         FLOOR
     }

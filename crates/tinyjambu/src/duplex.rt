@@ -9,9 +9,9 @@ use crate::phase::Phase;
 use crate::state::{phase_run, put, stream_word};
 use engine::{Engine, State};
 
-// The cipher under one nonce: the state, and how many bytes are in the open block. The engine is lent to each step and not held here,
-// since sessions have one of their own, and whole calls a lent one. What was taken is no field either, but said of every nonce, data
-// and text that it may be (`TookData`, `TookText`): no byte is kept for it.
+// The cipher under one nonce: the state, and how many bytes are in the open block. The engine is lent to each step and not held
+// here, since sessions have one of their own, and whole calls a lent one. What was taken is no field either, but said of every
+// nonce, data and text that it may be (`TookData`, `TookText`): no byte is kept for it.
 #[derive(Clone, Copy)]
 pub struct Duplex {
     state: State,

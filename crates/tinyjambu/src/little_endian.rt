@@ -3,8 +3,8 @@ ghost use Rattle.engine.specs.Bytes.{number, bytes};
 
 use byteorder::{ByteOrder, LittleEndian};
 
-// Words as four bytes of a buffer, the least byte first. The tape's `word` and `write_word` do the same as the two functions here;
-// one pair for both crates would be public, and no public function asks anything of its caller.
+// Words as four bytes of a buffer, the least byte first. The tape's `word` and `write_word` do the same as the two functions
+// here; one pair for both crates would be public, and no public function asks anything of its caller.
 
 // The word of the four bytes from `at` on.
 pub(crate) fn load(source: &[u8], at: usize) -> u32

@@ -46,8 +46,8 @@ fn seal_texts<E: Engine>(duplex: &mut Duplex, engine: &mut E, pieces: &[&[u8]], 
     }
 }
 
-// Seals the message of which data and text come in pieces: writes the sealed form of the joined message at the start of `out`, and
-// answers its length.
+// Seals the message of which data and text come in pieces: writes the sealed form of the joined message at the start of `out`,
+// and answers its length.
 pub fn seal_pieces<E: Engine>(
     engine: &mut E,
     nonce: [u32; 3],

@@ -100,8 +100,8 @@ fn recover<E: Engine>(
     check_tag(duplex.tag(engine), given)
 }
 
-// Opens sealed bytes: writes the text that seals to them at the start of `out`, and answers its length. A refusal leaves only zeros
-// in `out`.
+// Opens sealed bytes: writes the text that seals to them at the start of `out`, and answers its length. A refusal leaves only
+// zeros in `out`.
 pub fn open<E: Engine>(
     engine: &mut E,
     nonce: &[u8],
