@@ -96,7 +96,7 @@ module _ (key nonce ad : List ℕ) where
       let small : AllBytes p = rw (drop_at t p (length t) refl) at (All-drop (λ b. b < 256) (length t) (t ++ p) after.small) in (
         rw more after,
         take-put_mid at (at + length p - at) room part (at + length p) (ap (λ x. at + x) (sym crypt.len)) l ∙ ap₂ ◌++◌ before.1 made ∙ sealed_join t p before.0.small small
-        ∙ ap (sealed_piece key nonce ad []) (sym more),
+            ∙ ap (sealed_piece key nonce ad []) (sym more),
       )
 
 -- a total that passed the test for length is the message's own, and what passed the test for room has it

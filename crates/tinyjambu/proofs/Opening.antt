@@ -8,7 +8,7 @@ use Rattle.std.proofs.lemmas.List.{take_at, drop_at, take_all, drop-drop, length
 use Rattle.refusal.specs.declared.fault.Fault.{Fault}
 use Rattle.refusal.specs.declared.refusal.Refusal.{Refusal}
 use Rattle.refusal.specs.declared.refusal.Refusal.TheVariants.{NonceLength, DataTooLong, TextTooLong, Broken}
-use Rattle.tinyjambu.specs.Answers.{written, longest, length_check, open_check, open_refusal, open_answer, open_out, opened_answer, opened_out, opened_text_answer, opened_text_out}
+use Rattle.tinyjambu.specs.Answers.{written, longest, length_check, tag_answer, open_check, open_refusal, open_answer, open_out, opened_answer, opened_out, opened_text_answer, opened_text_out}
 use Rattle.engine.specs.Bytes.{number, bytes, word_bytes, AllBytes}
 use Rattle.tinyjambu.specs.History.{sealed_piece, sealed_tag}
 use Rattle.tinyjambu.specs.Laws.{Exact, OpensExactly}
@@ -17,6 +17,12 @@ use Rattle.tinyjambu.specs.Mode.{begun, blocks, absorbed, ciphertext, text_state
 use Rattle.tinyjambu.proofs.Exact.{opened_exactly, opened_text, opened_state, some_if}
 use Rattle.engine.proofs.Joined.{bytes-number}
 use Rattle.tinyjambu.proofs.Sealing.{seal-one, seal-length, ciphertext-length}
+
+-- what is opened goes by the test of the tag
+tag_decides : (b : Bool) (t : List ℕ) {o : Option (List ℕ)} {r : Result Unit Refusal} → o ≡ (if b then Some t else None) → r ≡ (if b then Ok tt else Err Broken)
+    → MatchResult r (λ _. o ≡ Some t) (λ f. (o ≡ None) × (f ≡ Broken))
+tag_decides true t e f = rw f e
+tag_decides false t e f = rw f (e, refl)
 
 module _ (key n ad : List ℕ) where
   abbrev start : ℕ
@@ -37,21 +43,17 @@ module _ (key n ad : List ℕ) where
   unfolding seal
   tag_part t = drop_at (ciphertext key start (blocks t)) (tag key (text_state key start (blocks t))) (length t) (ciphertext-length key start t)
 
-  -- where the sealed text of t is the sealed bytes less 8, opening is a matter of the tag
-  pub recovered : (t c : List ℕ) → length t + 8 ≡ length c → take (length t) c ≡ sealed_piece key n ad [] t
-      → opened key n ad c ≡ cond (same (sealed_tag key n ad t) (drop (length t) c)) (Some t) None
-  recovered t c e f =
-      let m : length c - 8 ≡ length t = omega arith in
-      let body : List ℕ = take (length c - 8) c in
-      let end : List ℕ = drop (length c - 8) c in
-      let made : List ℕ = tag key (plain_state key start (blocks body)) in
-      let is : body ≡ ciphertext key start (blocks t) = ap (λ k. take k c) m ∙ f ∙ text_part t in
-      let text : plaintext key start (blocks body) ≡ t = ap (λ b. plaintext key start (blocks b)) is ∙ opened_text key start t in
-      let state : plain_state key start (blocks body) ≡ text_state key start (blocks t) = ap (λ b. plain_state key start (blocks b)) is ∙ opened_state key start t in
-      let tags : made ≡ sealed_tag key n ad t = ap (tag key) state ∙ sym (tag_part t) in
-      opened_is c ∙ ap (λ b. cond (b && same made end) (Some (plaintext key start (blocks body))) None) (le-leb 8 (length c) (omega arith))
-      ∙ ap₂ (λ x y. cond (same x y) (Some (plaintext key start (blocks body))) None) tags (ap (λ k. drop k c) m)
-      ∙ ap (λ x. cond (same (sealed_tag key n ad t) (drop (length t) c)) (Some x) None) text
+  -- where t is sealed to the sealed bytes less 8, and the tag of that is made, the test of the tag tells what is opened
+  pub recovered : (t c body given made : List ℕ) {r : Result Unit Refusal} → (body ≡ take (length c - 8) c) × (given ≡ drop (length c - 8) c) × (length body + 8 ≡ length c)
+      → (body ≡ sealed_piece key n ad [] t) × (made ≡ sealed_tag key n ad t) → r ≡ tag_answer made given
+      → MatchResult r (λ _. opened key n ad c ≡ Some t) (λ f. (opened key n ad c ≡ None) × (f ≡ Broken))
+  recovered t c body given made parts walk e =
+      let is : take (length c - 8) c ≡ ciphertext key start (blocks t) = sym parts.0 ∙ walk.0 ∙ text_part t in
+      let text = ap (λ b. plaintext key start (blocks b)) is ∙ opened_text key start t in
+      let state = ap (λ b. plain_state key start (blocks b)) is ∙ opened_state key start t in
+      let tags = ap (tag key) state ∙ sym (walk.1 ∙ tag_part t) in
+      let l = le-leb 8 (length c) (omega arith) in
+      tag_decides (same made given) t (opened_is c ∙ rw (l, text, tags, ← parts.1) refl) e
 
   -- an opening by the definition is exact
   pub exact_by : (c : List ℕ) (o : Option (List ℕ)) (out : List ℕ) → opened key n ad c ≡ o → Exact key n ad c (opened_text_answer o) (opened_text_out o out)
@@ -70,12 +72,6 @@ module _ (key n ad : List ℕ) where
     one = λ t u f g. seal-one key n ad t u (f ∙ sym g);
     none = λ f. absurd (f t ((opened_exactly key n ad c t).0 e));
   }
-
--- what is opened goes by the test of the tag
-pub tag_decides : (b : Bool) (t : List ℕ) {o : Option (List ℕ)} {r : Result Unit Refusal} → o ≡ (if b then Some t else None) → r ≡ (if b then Ok tt else Err Broken)
-    → MatchResult r (λ _. o ≡ Some t) (λ f. (o ≡ None) × (f ≡ Broken))
-tag_decides true t e f = rw f e
-tag_decides false t e f = rw f (e, refl)
 
 -- a nonce that was taken for three words has their bytes
 pub nonce_taken : (n ws : List ℕ) → AllBytes n → Some ws ≡ nonce_words n → (eqb (length n) 12 ≡ true) × (word_bytes ws ≡ n)

@@ -1,7 +1,6 @@
-use Rattle.std.proofs.Common.{◌≡◌, ℕ, ◌+◌, List, [], ◌++◌, length, sym, ap, ◌∙◌, ap₂, arith, take-append-drop}
+use Rattle.std.proofs.Common.{◌≡◌, ℕ, ◌+◌, List, ◌++◌, length, sym, ap, ◌∙◌, ap₂, arith, take-append-drop}
 use Rattle.tinyjambu.specs.Answers.{sealed_out, written}
 use Rattle.engine.specs.Bytes.{word_bytes}
-use Rattle.tinyjambu.specs.History.{TookData, TookText, sealed_piece, sealed_tag}
 use Rattle.tinyjambu.specs.Message.{message}
 use Rattle.tinyjambu.specs.Mode.{seal}
 use Rattle.tinyjambu.proofs.Histories.{whole_message}

@@ -1,8 +1,6 @@
-use Rattle.std.proofs.Common.{◌≡◌, ℕ, ◌+◌, ◌≤◌, List, ◌++◌, length, get_or, take, sym, ap, ◌∙◌, arith, length-append}
+use Rattle.std.proofs.Common.{ℕ, ◌≤◌, List, length, sym, ap, ◌∙◌, arith}
 use Rattle.std.proofs.lemmas.List.{take_all}
-use Rattle.tinyjambu.specs.History.{TookText, sealed_piece}
-use Rattle.tinyjambu.specs.Message.{message}
-use Rattle.tinyjambu.proofs.Messages.{nothing, message_more, message_all, end_within, text_piece}
+use Rattle.tinyjambu.proofs.Messages.{message_all, end_within, text_piece}
 use Rattle.tinyjambu.proofs.pieces.seal_texts.Goals as goal
 
 pub overflow_add-end : goal.overflow_add-end
