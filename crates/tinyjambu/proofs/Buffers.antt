@@ -1,19 +1,9 @@
 -- What is written at the start of an out buffer.
-use Rattle.std.proofs.Common.{◌≡◌, ℕ, ◌+◌, ◌-◌, ◌≤◌, List, ◌++◌, length, drop, None, sym, ap, ◌∙◌, ap₂, append_assoc, arith, length-drop}
+use Rattle.std.proofs.Common.{◌≡◌, ℕ, ◌+◌, ◌-◌, ◌≤◌, List, ◌++◌, length, drop, None, sym, ap, ◌∙◌, ap₂, append_assoc, arith}
 use borrow.Rule.Slice.PartMut.{put_mid}
 use Rattle.std.proofs.lemmas.List.{length-append, take_at, drop_at, drop-drop}
 use Rattle.std.proofs.lemmas.Bool.{cond-false, le-ltb}
 use Rattle.tinyjambu.specs.Answers.{written, longest, message_check}
-
--- after a write to the first n bytes
-pub written_part : (part bytes out : List ℕ) (n : ℕ) → part ≡ bytes → length part ≡ n → part ++ drop (n - 0) out ≡ written bytes out
-written_part part bytes out n e l =
-    let m : n - 0 ≡ length bytes = omega (arith, ap length e) in
-    ap₂ (λ x k. x ++ drop k out) e m
-
--- which leaves its length
-pub length_part : (part out : List ℕ) (n : ℕ) → length part ≡ n → n ≤ length out → length (part ++ drop (n - 0) out) ≡ length out
-length_part part out n e h = length-append part (drop (n - 0) out) ∙ rw (e, length-drop) (omega arith)
 
 -- after a write to the first n bytes, and then of a tag behind them
 pub written-tag : (text tag out : List ℕ) (n : ℕ) → length text ≡ n → length tag ≡ 8 → put_mid n (n + 8 - n) (text ++ drop (n - 0) out) tag ≡ written (text ++ tag) out

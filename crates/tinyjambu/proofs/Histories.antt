@@ -77,3 +77,19 @@ module _ (key nonce : List ℕ) where
         let e : closed k s ≡ text_state key start (blocks t)
         = ap₂ closed h.filled h.state ∙ fed_blocks (text_run key) t start h.small ∙ sym (text_state_is key start (blocks t)) in
         ap (tag key) e ∙ sym (ap (drop (length t)) (seal_is t h.small) ∙ drop_at before (tag key (text_state key start (blocks t))) (length t) (length_sealed (text_run key) t 0 start))
+
+-- A whole message: the key and the nonce are taken, the data, its end, the text, and the tag, each under the key that the step before left.
+pub whole_message : {key k₁ k₂ k₃ tag : List ℕ} {s₀ s₁ s₂ s₃ j₀ j₁ j₂ j₃ : ℕ} (nonce ad t made : List ℕ)
+    → record { took : DataAt key nonce [] s₀ j₀; same : k₁ ≡ key }
+    → record { took : (n a : List ℕ) → DataAt k₁ n a s₀ j₀ → DataAt k₁ n (a ++ ad) s₁ j₁; same : k₂ ≡ k₁ }
+    → ((k n a : List ℕ) → DataAt k n a s₁ j₁ → TextAt k n a [] s₂ j₂)
+    → ((n a : List ℕ) → TextAt k₂ n a [] s₂ j₂ → TextAt k₂ n a t s₃ j₃)
+    → ((n a : List ℕ) → TextAt k₂ n a [] s₂ j₂ → made ≡ sealed_piece k₂ n a [] t)
+    → k₃ ≡ k₂
+    → ((n a u : List ℕ) → TextAt k₃ n a u s₃ j₃ → tag ≡ sealed_tag k₃ n a u)
+    → (made ≡ sealed_piece key nonce ad [] t) × (tag ≡ sealed_tag key nonce ad t)
+whole_message {key} nonce ad t made begin absorb end crypt out same tags =
+    let two = absorb.same ∙ begin.same in
+    let three = same ∙ two in
+    let took = end key nonce ad ((rw begin.same at absorb.took) nonce [] begin.took) in
+    ((rw two at out) nonce ad took, (rw three at tags) nonce ad t ((rw two at crypt) nonce ad took))

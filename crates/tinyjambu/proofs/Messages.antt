@@ -39,12 +39,12 @@ message_within ps i =
     let e = ap length (ap message (sym (take-append-drop i ps)) ∙ message-append (take i ps) (drop i ps)) ∙ length-append (message (take i ps)) (message (drop i ps)) in
     omega arith
 
--- so the next piece ends within it
+-- so the next piece ends within it, where the pieces up to it end
 pub end_within : (ps : List (Bor (List ℕ))) (i at n : ℕ) → i < length ps → at ≡ length (message (take i ps)) → n ≡ length (message ps)
-    → at + length (get_or ps i nothing).now ≤ n
+    → (at + length (get_or ps i nothing).now ≤ n) × (at + length (get_or ps i nothing).now ≡ length (message (take (i + 1) ps)))
 end_within ps i at n h e f =
     let m = ap length (message_more ps i h) ∙ length-append (message (take i ps)) (get_or ps i nothing).now in
-    omega (arith, message_within ps (i + 1))
+    (omega (arith, message_within ps (i + 1)), omega arith)
 
 -- a sum of lengths that stops at the largest number
 abbrev pub capped : ℕ → Bor (List ℕ) → ℕ
@@ -57,12 +57,13 @@ capped_sum (p ∷ ps) n =
     ap (λ m. fold capped m ps) e ∙ capped_sum ps (n + length p.now) ∙ omega (arith, length-append p.now (message ps))
 
 module _ (key nonce ad : List ℕ) where
-  -- the next piece of the associated data
-  pub data_piece : (ps : List (Bor (List ℕ))) (i : ℕ) (s k : ℕ) → i < length ps
-      → DataAt key nonce ((ad ++ message (take i ps)) ++ (get_or ps i nothing).now) s k → DataAt key nonce (ad ++ message (take (i + 1) ps)) s k
-  data_piece ps i s k h t =
+  -- the next piece of the associated data, under the key as it was left
+  pub data_piece : (ps : List (Bor (List ℕ))) (i : ℕ) {k : List ℕ} {s j s' j' : ℕ} → i < length ps → k ≡ key
+      → ((n a : List ℕ) → DataAt k n a s j → DataAt k n (a ++ (get_or ps i nothing).now) s' j')
+      → DataAt key nonce (ad ++ message (take i ps)) s j → DataAt key nonce (ad ++ message (take (i + 1) ps)) s' j'
+  data_piece ps i h same took before =
       let e = append_assoc ad (message (take i ps)) (get_or ps i nothing).now ∙ ap (λ m. ad ++ m) (sym (message_more ps i h)) in
-      rw e at t
+      rw e at ((rw same at took) nonce (ad ++ message (take i ps)) before)
 
   -- the sealed forms of two pieces, one after the other, are that of both
   pub sealed_join : (t p : List ℕ) → AllBytes t → AllBytes p → sealed_piece key nonce ad [] t ++ sealed_piece key nonce ad t p ≡ sealed_piece key nonce ad [] (t ++ p)
@@ -74,20 +75,28 @@ module _ (key nonce ad : List ℕ) where
       ap₂ ◌++◌ (sym (sealed_part key nonce ad [] t s 0 none h)) (sym (sealed_part key nonce ad t p (fed run 0 s t) (length t % 4) some l))
       ∙ sym (sealed-after run t p s) ∙ sealed_part key nonce ad [] (t ++ p) s 0 none (All-append (λ b. b < 256) t p h l)
 
-  -- the next piece of the text, written after what was sealed before it
-  pub text_piece : (ps : List (Bor (List ℕ))) (i at s k s' k' : ℕ) (out part : List ℕ) → i < length ps → at ≡ length (message (take i ps)) → at ≤ length out
-      → TextAt key nonce ad (message (take i ps)) s k → TextAt key nonce ad (message (take i ps) ++ (get_or ps i nothing).now) s' k'
-      → take at out ≡ sealed_piece key nonce ad [] (message (take i ps)) → part ≡ sealed_piece key nonce ad (message (take i ps)) (get_or ps i nothing).now
-      → length part ≡ length (get_or ps i nothing).now
-      → TextAt key nonce ad (message (take (i + 1) ps)) s' k'
-      × (take (at + length (get_or ps i nothing).now) (put_mid at (at + length (get_or ps i nothing).now - at) out part) ≡ sealed_piece key nonce ad [] (message (take (i + 1) ps)))
-  text_piece ps i at s k s' k' out part h n l before after e f m =
+  -- the next piece of the text, written after what was sealed before it, under the key as it was left
+  pub text_piece : (ps : List (Bor (List ℕ))) (i at : ℕ) (room part : List ℕ) {k l : List ℕ} {s j s' j' : ℕ} → i < length ps → at ≡ length (message (take i ps))
+      → at ≤ length room → k ≡ key
+      → record {
+        took : (n a t : List ℕ) → TextAt k n a t s j → TextAt k n a (t ++ (get_or ps i nothing).now) s' j';
+        out : (n a t : List ℕ) → TextAt k n a t s j → part ≡ sealed_piece k n a t (get_or ps i nothing).now;
+        len : length part ≡ length (get_or ps i nothing).now;
+        same : l ≡ k;
+      }
+      → TextAt key nonce ad (message (take i ps)) s j × (take at room ≡ sealed_piece key nonce ad [] (message (take i ps)))
+      → TextAt key nonce ad (message (take (i + 1) ps)) s' j'
+      × (take (at + length (get_or ps i nothing).now) (put_mid at (at + length (get_or ps i nothing).now - at) room part) ≡ sealed_piece key nonce ad [] (message (take (i + 1) ps)))
+  text_piece ps i at room part h n l same crypt before =
       let t : List ℕ = message (take i ps) in
       let p : List ℕ = (get_or ps i nothing).now in
       let more = message_more ps i h in
+      let after = (rw same at crypt.took) nonce ad t before.0 in
+      let made = (rw same at crypt.out) nonce ad t before.0 in
       let small : AllBytes p = rw (drop_at t p (length t) refl) at (All-drop (λ b. b < 256) (length t) (t ++ p) after.small) in (
         rw more after,
-        take-put_mid at (at + length p - at) out part (at + length p) (ap (λ x. at + x) (sym m)) l ∙ ap₂ ◌++◌ e f ∙ sealed_join t p before.small small ∙ ap (sealed_piece key nonce ad []) (sym more),
+        take-put_mid at (at + length p - at) room part (at + length p) (ap (λ x. at + x) (sym crypt.len)) l ∙ ap₂ ◌++◌ before.1 made ∙ sealed_join t p before.0.small small
+            ∙ ap (sealed_piece key nonce ad []) (sym more),
       )
 
 -- a total that passed the test for length is the message's own, and what passed the test for room has it

@@ -1,22 +1,28 @@
 -- What an opening that recovered t, and compared its tag, has found.
-use Rattle.std.proofs.Common.{◌≡◌, ℕ, ◌+◌, ◌-◌, ◌<◌, ◌≤◌, Bool, true, false, cond, ◌&&◌, eqb, ltb, leb, List, [], ◌∷◌, ◌++◌, length, take, drop, Some, None, Ok, Err, Option, Result, sym, refl, ap, ◌∙◌, ap₂, append-nil, arith, length-drop, take-append-drop}
-use Rattle.std.specs.Prelude.{if◌then◌else◌, MatchResult}
+use Rattle.std.proofs.Common.{◌≡◌, ℕ, ◌+◌, ◌-◌, ◌<◌, ◌≤◌, Bool, true, false, cond, ◌&&◌, eqb, ltb, leb, List, [], ◌∷◌, ◌++◌, length, take, drop, Some, None, is_some, Ok, Err, Option, Result, sym, refl, ap, ◌∙◌, ap₂, append-nil, arith, length-append, length-drop, take-append-drop}
+use Rattle.std.specs.Prelude.{if◌then◌else◌, MatchResult, IsSome}
 use Rattle.std.proofs.lemmas.Bool.Decides.{nat_tests}
-use Rattle.std.proofs.lemmas.Bool.{le-leb, ltb-false, eqb-true, le-ltb, cond-true, cond-false}
+use Rattle.std.proofs.lemmas.Bool.{both_ways, le-leb, ltb-false, eqb-true, le-ltb, cond-true, cond-false}
 use Rattle.std.proofs.ByRecursion.{All-take, All-drop}
 use Rattle.std.proofs.lemmas.List.{take_at, drop_at, take_all, drop-drop, length-take-le}
 use Rattle.refusal.specs.declared.fault.Fault.{Fault}
 use Rattle.refusal.specs.declared.refusal.Refusal.{Refusal}
 use Rattle.refusal.specs.declared.refusal.Refusal.TheVariants.{NonceLength, DataTooLong, TextTooLong, Broken}
-use Rattle.tinyjambu.specs.Answers.{longest, length_check, open_check, open_refusal, opened_answer, opened_out, opened_text_answer, opened_text_out}
+use Rattle.tinyjambu.specs.Answers.{written, longest, length_check, tag_answer, open_check, open_refusal, open_answer, open_out, opened_answer, opened_out, opened_text_answer, opened_text_out}
 use Rattle.engine.specs.Bytes.{number, bytes, word_bytes, AllBytes}
 use Rattle.tinyjambu.specs.History.{sealed_piece, sealed_tag}
-use Rattle.tinyjambu.specs.Laws.{Exact}
+use Rattle.tinyjambu.specs.Laws.{Exact, OpensExactly}
 use Rattle.tinyjambu.specs.Nonce.{nonce_words}
 use Rattle.tinyjambu.specs.Mode.{begun, blocks, absorbed, ciphertext, text_state, plaintext, plain_state, tag, same, seal, opened}
 use Rattle.tinyjambu.proofs.Exact.{opened_exactly, opened_text, opened_state, some_if}
 use Rattle.engine.proofs.Joined.{bytes-number}
 use Rattle.tinyjambu.proofs.Sealing.{seal-one, seal-length, ciphertext-length}
+
+-- what is opened goes by the test of the tag
+tag_decides : (b : Bool) (t : List ℕ) {o : Option (List ℕ)} {r : Result Unit Refusal} → o ≡ (if b then Some t else None) → r ≡ (if b then Ok tt else Err Broken)
+    → MatchResult r (λ _. o ≡ Some t) (λ f. (o ≡ None) × (f ≡ Broken))
+tag_decides true t e f = rw f e
+tag_decides false t e f = rw f (e, refl)
 
 module _ (key n ad : List ℕ) where
   abbrev start : ℕ
@@ -37,21 +43,17 @@ module _ (key n ad : List ℕ) where
   unfolding seal
   tag_part t = drop_at (ciphertext key start (blocks t)) (tag key (text_state key start (blocks t))) (length t) (ciphertext-length key start t)
 
-  -- where the sealed text of t is the sealed bytes less 8, opening is a matter of the tag
-  pub recovered : (t c : List ℕ) → length t + 8 ≡ length c → take (length t) c ≡ sealed_piece key n ad [] t
-      → opened key n ad c ≡ cond (same (sealed_tag key n ad t) (drop (length t) c)) (Some t) None
-  recovered t c e f =
-      let m : length c - 8 ≡ length t = omega arith in
-      let body : List ℕ = take (length c - 8) c in
-      let end : List ℕ = drop (length c - 8) c in
-      let made : List ℕ = tag key (plain_state key start (blocks body)) in
-      let is : body ≡ ciphertext key start (blocks t) = ap (λ k. take k c) m ∙ f ∙ text_part t in
-      let text : plaintext key start (blocks body) ≡ t = ap (λ b. plaintext key start (blocks b)) is ∙ opened_text key start t in
-      let state : plain_state key start (blocks body) ≡ text_state key start (blocks t) = ap (λ b. plain_state key start (blocks b)) is ∙ opened_state key start t in
-      let tags : made ≡ sealed_tag key n ad t = ap (tag key) state ∙ sym (tag_part t) in
-      opened_is c ∙ ap (λ b. cond (b && same made end) (Some (plaintext key start (blocks body))) None) (le-leb 8 (length c) (omega arith))
-      ∙ ap₂ (λ x y. cond (same x y) (Some (plaintext key start (blocks body))) None) tags (ap (λ k. drop k c) m)
-      ∙ ap (λ x. cond (same (sealed_tag key n ad t) (drop (length t) c)) (Some x) None) text
+  -- where t is sealed to the sealed bytes less 8, and the tag of that is made, the test of the tag tells what is opened
+  pub recovered : (t c body given made : List ℕ) {r : Result Unit Refusal} → (body ≡ take (length c - 8) c) × (given ≡ drop (length c - 8) c) × (length body + 8 ≡ length c)
+      → (body ≡ sealed_piece key n ad [] t) × (made ≡ sealed_tag key n ad t) → r ≡ tag_answer made given
+      → MatchResult r (λ _. opened key n ad c ≡ Some t) (λ f. (opened key n ad c ≡ None) × (f ≡ Broken))
+  recovered t c body given made parts walk e =
+      let is : take (length c - 8) c ≡ ciphertext key start (blocks t) = sym parts.0 ∙ walk.0 ∙ text_part t in
+      let text = ap (λ b. plaintext key start (blocks b)) is ∙ opened_text key start t in
+      let state = ap (λ b. plain_state key start (blocks b)) is ∙ opened_state key start t in
+      let tags = ap (tag key) state ∙ sym (walk.1 ∙ tag_part t) in
+      let l = le-leb 8 (length c) (omega arith) in
+      tag_decides (same made given) t (opened_is c ∙ rw (l, text, tags, ← parts.1) refl) e
 
   -- an opening by the definition is exact
   pub exact_by : (c : List ℕ) (o : Option (List ℕ)) (out : List ℕ) → opened key n ad c ≡ o → Exact key n ad c (opened_text_answer o) (opened_text_out o out)
@@ -71,12 +73,6 @@ module _ (key n ad : List ℕ) where
     none = λ f. absurd (f t ((opened_exactly key n ad c t).0 e));
   }
 
--- what is opened goes by the test of the tag
-pub tag_decides : (b : Bool) (t : List ℕ) {o : Option (List ℕ)} {r : Result Unit Refusal} → o ≡ (if b then Some t else None) → r ≡ (if b then Ok tt else Err Broken)
-    → MatchResult r (λ _. o ≡ Some t) (λ f. (o ≡ None) × (f ≡ Broken))
-tag_decides true t e f = rw f e
-tag_decides false t e f = rw f (e, refl)
-
 -- a nonce that was taken for three words has their bytes
 pub nonce_taken : (n ws : List ℕ) → AllBytes n → Some ws ≡ nonce_words n → (eqb (length n) 12 ≡ true) × (word_bytes ws ≡ n)
 nonce_taken n ws small e =
@@ -95,30 +91,37 @@ pub open_check-none : (n ad c room : ℕ) → eqb n 12 ≡ true → ad ≤ longe
 open_check-none n ad c room e f g h l =
     cond-true _ _ _ e ∙ cond-false _ _ _ (le-ltb longest ad f) ∙ cond-false _ _ _ (le-ltb longest (c - 8) g) ∙ cond-false _ _ _ (le-ltb c 8 h) ∙ cond-false _ _ _ (le-ltb room (c - 8) l)
 
--- what an opening owes, once the checks have passed and it is known what there is to open
-pub record Opened (key n ad c out : List ℕ) (check : Option Refusal) (r : Result ℕ Fault) (after : List ℕ) : Type 0 where
-  pub answer : r ≡ opened_answer check (opened key n ad c)
-  pub bytes : after ≡ opened_out check (opened key n ad c) out
-  pub exact : Exact key n ad c r after
-  pub none : check ≡ None
-
-pub opened_by : (key n ws ad c out : List ℕ) (o : Option (List ℕ)) {answer : Result ℕ Fault} {after : List ℕ} → AllBytes n → nonce_words n ≡ Some ws
-    → length_check (length ad) (length c) (length out) ≡ None → opened key (word_bytes ws) ad c ≡ o → answer ≡ opened_text_answer o → after ≡ opened_text_out o out
-    → Opened key n ad c out (open_refusal n ad c out) answer after
-opened_by key n ws ad c out o small w l f g h =
+-- what `open` ensures, where the checks pass and it is known what there is to open
+pub opened_by : {A : Type 0} (key : A → List ℕ) {old new : A} {n ws ad c after : List ℕ} (room : List ℕ) (o : Option (List ℕ)) {r : Result ℕ Fault} → AllBytes n
+    → nonce_words n ≡ Some ws → length_check (length ad) (length c) (length room) ≡ None → opened (key old) (word_bytes ws) ad c ≡ o
+    → r ≡ opened_text_answer o → after ≡ opened_text_out o room → key new ≡ key old
+    → record {
+      answer : r ≡ open_answer (key old) n ad c room;
+      out : after ≡ open_out (key old) n ad c room;
+      exact : OpensExactly (key old) n ad c room r after;
+      refused : IsSome (open_refusal n ad c room) → new ≡ old;
+      same : key new ≡ key old;
+    }
+opened_by key {old} {n = n} {ws} {ad} {c} room o small w l f g h kept =
     let taken = nonce_taken n ws small (sym w) in
-    let e : open_refusal n ad c out ≡ None = cond-true _ _ _ taken.0 ∙ l in
-    let k : opened key n ad c ≡ o = ap (λ x. opened key x ad c) (sym taken.1) ∙ f in
+    let e : open_refusal n ad c room ≡ None = cond-true _ _ _ taken.0 ∙ l in
+    let k : opened (key old) n ad c ≡ o = ap (λ x. opened (key old) x ad c) (sym taken.1) ∙ f in
     record {
       answer = g ∙ sym (ap₂ opened_answer e k);
-      bytes = h ∙ sym (ap₂ (λ x y. opened_out x y out) e k);
-      exact = rw (g, h) (exact_by key n ad c o out k);
-      none = e;
+      out = h ∙ sym (ap₂ (λ x y. opened_out x y room) e k);
+      exact = λ _. rw (g, h) (exact_by (key old) n ad c o room k);
+      refused = λ i. absurd (both_ways _ (ap is_some e) i);
+      same = kept;
     }
 
--- what passed the checks of lengths has the room
-pub length_check-room : (ad c room : ℕ) → length_check ad c room ≡ None → c - 8 ≤ room
-length_check-room ad c room e = grind (arith, nat_tests)
+-- what is recovered into the first bytes of a buffer, once the checks of lengths passed, is all of the text, and the rest stays
+pub part_passed : (ad c : ℕ) (room part : List ℕ) (len : ℕ) → (length_check ad c (length room) ≡ None) × (len + 8 ≡ c) → length part ≡ length (take (len - 0) room)
+    → (length part ≡ len) × (part ++ drop (len - 0) room ≡ written part room) × (length (part ++ drop (len - 0) room) ≡ length room)
+part_passed ad c room part len h e =
+    let l : len ≤ length room = grind (arith, nat_tests) in
+    let f : length part ≡ len = e ∙ length-take-le (len - 0) room (omega arith) ∙ omega arith in
+    let m : len - 0 ≡ length part = omega arith in
+    (f, ap (λ k. part ++ drop k room) m, length-append part (drop (len - 0) room) ∙ rw length-drop (omega arith))
 
 -- a text that was opened is 8 bytes shorter
 pub opened-length : (key n ad c t : List ℕ) → opened key n ad c ≡ Some t → length t + 8 ≡ length c

@@ -7,7 +7,8 @@ abbrev pub invariant-loop-piece : goal.invariant-loop-piece
 invariant-loop-piece g l =
     let key : List ℕ = g.E.Engine.key l.initial.engine in
     let t : List ℕ = message (take l.piece-index l.pieces) in
-    (l.at ≡ length t)
-    × ((nonce ad : List ℕ) → TookText key nonce ad [] l.initial.duplex
-    → TookText key nonce ad t l.duplex × (take l.at l.out ≡ sealed_piece key nonce ad [] t))
-    × (g.E.Engine.key l.engine ≡ key)
+    record {
+      place : l.at ≡ length t;
+      made : (nonce ad : List ℕ) → TookText key nonce ad [] l.initial.duplex → TookText key nonce ad t l.duplex × (take l.at l.out ≡ sealed_piece key nonce ad [] t);
+      same : g.E.Engine.key l.engine ≡ key;
+    }

@@ -1,4 +1,4 @@
-use Rattle.std.proofs.Common.{◌+◌, length, sym, ap, ◌∙◌, length-append}
+use Rattle.std.proofs.Common.{arith, length-append}
 use Rattle.tinyjambu.proofs.session.Session.absorb.Goals as goal
 
 pub returns-clause-extends : goal.returns-clause-extends
@@ -6,5 +6,5 @@ returns-clause-extends g c =
     let p = c.args.piece.now in
     λ nonce ad h. record {
       took = rw c.absorb.ensures.same (c.absorb.ensures.took nonce ad h.took);
-      counted = ap (λ n. n + length p) h.counted ∙ sym (length-append ad p);
+      counted = omega (arith, length-append ad p);
     }
