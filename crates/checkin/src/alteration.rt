@@ -8,7 +8,7 @@ pub(crate) fn altered(bytes: &mut [u8]) -> Option<usize>
         return None;
     }
     let at = bytes.len() / 2;
-    // By an index: of a write through a slice's `get_mut` the proof knows no byte afterwards.
+    // By the index that it answers: of a write through a slice's `get_mut` the proof knows no byte afterwards.
     bytes[at] ^= 1;
     Some(at)
 }

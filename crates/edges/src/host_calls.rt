@@ -45,6 +45,7 @@ fn what_was_sealed_opens(rt: HostRuntime) {
         vurshade_seal(&BYTES[0..24], &NONCE, b"scene", &BYTES, &mut sealed),
         48
     );
+    // A byte longer than the text on purpose: it stays.
     let mut back = [7u8; 41];
     assert_eq!(rt;
         vurshade_open(&BYTES[0..24], &NONCE, b"scene", &sealed, &mut back),

@@ -3,15 +3,16 @@ use std::alloc::{AllocError, Global};
 use std::test::Fail;
 use tinyjambu::Refusal;
 
-// What refuses a text of so many bytes in sealing and in opening, and whether it came back. (A `u32`, to which 8 can be added.)
-fn try_text(heap: Global, len: u32) -> Result<([Option<Refusal>; 2], bool), AllocError> {
-    let len = len as usize;
-    let text = vec![in heap; 7u8; len]?;
-    let mut out = vec![in heap; 0u8; len + 8]?;
-    let sealing = try_seal(&[], &text, &mut out);
-    let mut back = vec![in heap; 0u8; len]?;
-    let opening = try_open(&[], &out, &mut back);
-    Ok(([sealing, opening], back == text))
+// What refuses a text in sealing, and in opening it into `back`.
+fn try_text(
+    heap: Global,
+    text: &[u8],
+    back: &mut [u8],
+) -> Result<[Option<Refusal>; 2], AllocError> {
+    let mut out = vec![in heap; 0u8; text.len().saturating_add(8)]?;
+    let sealing = try_seal(&[], text, &mut out);
+    let opening = try_open(&[], &out, back);
+    Ok([sealing, opening])
 }
 
 // What refuses so many bytes of data in sealing and in opening.
@@ -25,17 +26,22 @@ fn try_data(heap: Global, len: usize) -> Result<[Option<Refusal>; 2], AllocError
 
 #[test]
 fn text_of_65536_bytes_is_taken(rt: HostRuntime) -> Result<(), Fail> {
-    let (answers, back) = try_text(rt.alloc(), 65536)?;
-    assert_eq!(rt; answers, [None; 2]);
-    assert!(rt; back);
+    let text = vec![in rt.alloc(); 7u8; 65536]?;
+    let mut back = vec![in rt.alloc(); 0u8; 65536]?;
+    assert_eq!(rt; try_text(rt.alloc(), &text, &mut back)?, [None; 2]);
+    assert!(rt; back == text);
     Ok(())
 }
 
 #[test]
 fn text_of_65537_bytes_is_refused(rt: HostRuntime) -> Result<(), Fail> {
-    let (answers, back) = try_text(rt.alloc(), 65537)?;
-    assert_eq!(rt; answers, [Some(Refusal::TextTooLong); 2]);
-    assert!(rt; !back);
+    let text = vec![in rt.alloc(); 7u8; 65537]?;
+    let mut back = vec![in rt.alloc(); 0u8; 65537]?;
+    assert_eq!(rt;
+        try_text(rt.alloc(), &text, &mut back)?,
+        [Some(Refusal::TextTooLong); 2]
+    );
+    assert!(rt; back != text);
     Ok(())
 }
 

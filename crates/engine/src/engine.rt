@@ -4,9 +4,10 @@ ghost use Rattle.engine.specs.Bytes.{joined, words};
 ghost use Rattle.engine.specs.Keys.{HasKeySize};
 
 // A key at work. A run turns a state of four words, the least word first, into the state that its rounds give under the key. An
-// engine may change inside, so it is lent by `&mut`, and each function that is lent one says again that the key stays (`same`).
-// A type that held the lent engine would be no plainer: what it leaves of the engine would be said in the same places, and a
-// function that gave one out could not say what comes back.
+// engine may change inside, so it is lent by `&mut`, and each function that is lent one says again that the key stays (`same`),
+// and where it can be refused, that then nothing changes (`refused`), as a key, a session and a roll say of themselves. A type
+// that held the lent engine would be no plainer: what it leaves of the engine would be said in the same places, and a function
+// that gave one out could not say what comes back.
 pub trait Engine {
     // The bytes of the key, of which there are 16, 24 or 32.
     ghost key: { Self → List ℕ };

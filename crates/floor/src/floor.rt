@@ -134,6 +134,7 @@ impl<R: Roll, E: Engine> Roll for Floor<R, E> {
         let len = self.length(entry)?;
         let floor = self.floor();
         let label = self.label(floor, entry);
+        // As in roll's `give` and in the cipher: one test for all would be public, and here it adds the floor and the entry.
         if guard.out.len() < len {
             return Err(Refusal::OutTooShort.at(floor, entry));
         }

@@ -7,10 +7,12 @@ use arrayvec::ArrayVec;
 use roll::{FLOOR, Roll, give};
 use tinyjambu::{Fault, Refusal};
 
-// A page, and the pages of a pocket, in bytes.
+// How many pages a pocket has, and the bytes of a page and of all.
+const PAGES: usize = 64;
+
 const PAGE: usize = 64;
 
-const SIZE: usize = 4096;
+const SIZE: usize = PAGES * PAGE;
 
 // A roll on 64 pages of 64 bytes of its own, in which each entry begins on a page of its own.
 #[derive(Drop)]
@@ -18,7 +20,7 @@ pub struct Pocket {
     name: u32,
     // An array, since a pocket has fixed memory: an entry begins on a page, and its length tells how much of its pages it fills.
     bytes: [u8; SIZE],
-    lengths: ArrayVec<u32, 64>,
+    lengths: ArrayVec<u32, PAGES>,
     ghost whole: { length bytes ≡ SIZE },
     ghost fits: { paged_all lengths.items ≤ SIZE },
 }

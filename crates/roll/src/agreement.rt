@@ -35,8 +35,8 @@ pub fn agree<R: Roll, S: Roll>(left: &mut R, right: &mut S) -> bool
     if right.count() != count {
         return false;
     }
-    // By no `all` (tried): its closure reads both rolls, and of what a closure leaves of what it captures the check knows
-    // nothing, or what an invariant says, which would be as long as the loop's.
+    // By no `all` (tried): its closure would read both rolls, and the check knows nothing of what a closure leaves of what it
+    // captures unless an invariant says it, which would be as long as the loop's.
     for number in 0..count {
         if !alike(left, right, number) {
             return false;

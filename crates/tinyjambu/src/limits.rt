@@ -16,7 +16,8 @@ pub(crate) fn check_limit(taken: usize, more: usize, refusal: Refusal) -> Result
     Ok(())
 }
 
-// Refuses an out buffer that has not the room for so many bytes.
+// Refuses an out buffer that has not the room for so many bytes. (Roll's `give` and a floor's read test the like: one test for
+// all would be public, and these add to the refusal what it is about.)
 pub(crate) fn check_room(room: usize, bytes: usize) -> Result<(), Refusal>
     ensures { result ≡ room_answer room bytes }
 {

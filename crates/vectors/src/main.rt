@@ -38,11 +38,15 @@ fn run_file(rt: &(impl Files + Print + AllocGlobal), size: KeySize) -> anyhow::R
 
 // Runs the three files, and fails where a case does not agree.
 fn run(rt: &(impl Files + Print + AllocGlobal)) -> anyhow::Result<()> {
-    let mut all_agree = true;
-    for size in [KeySize::Bits128, KeySize::Bits192, KeySize::Bits256] {
-        all_agree &= run_file(rt, size)?.all_agree();
-    }
-    ensure!(all_agree, "some cases do not agree");
+    let tallies = [
+        run_file(rt, KeySize::Bits128)?,
+        run_file(rt, KeySize::Bits192)?,
+        run_file(rt, KeySize::Bits256)?,
+    ];
+    ensure!(
+        tallies.iter().all(|tally| tally.all_agree()),
+        "some cases do not agree"
+    );
     Ok(())
 }
 
