@@ -8,7 +8,7 @@ use tinyjambu::Fault;
 const TEXT: [u8; 11] = *b"revision 12";
 
 // Appends entries to a tape until it has so many.
-pub fn append_up_to(tape: &mut Tape, count: u32) -> Result<(), Fault> {
+pub(crate) fn append_up_to(tape: &mut Tape, count: u32) -> Result<(), Fault> {
     for entry in tape.count()..count {
         tape.append(&TEXT[0..entry as usize % 12])?;
     }
@@ -16,7 +16,7 @@ pub fn append_up_to(tape: &mut Tape, count: u32) -> Result<(), Fault> {
 }
 
 // Reads entries, and answers the sum of their lengths and of what stands last in the buffer, so that no read is for nothing.
-pub fn read_entries(tape: &mut Tape, entries: Range<u32>) -> Result<u64, Fault> {
+pub(crate) fn read_entries(tape: &mut Tape, entries: Range<u32>) -> Result<u64, Fault> {
     let mut sum = 0u64;
     let mut out = [0u8; 11];
     for entry in entries {

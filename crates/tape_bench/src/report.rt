@@ -38,7 +38,7 @@ fn print_line(rt: &impl Print, call: &str, nanos: [u128; 3]) -> io::Result<()> {
 }
 
 // Times the calls of a tape, and prints the nanoseconds of one.
-pub fn report(rt: &(impl Clock + Print + AllocGlobal)) -> anyhow::Result<()> {
+pub(crate) fn report(rt: &(impl Clock + Print + AllocGlobal)) -> anyhow::Result<()> {
     let times = least_times(rt)?;
     println!(rt;
         "nanoseconds a call among the first, the middle and the last thousand entries of 4095"

@@ -41,7 +41,7 @@ fn time_reads(rt: &impl Clock, tape: &mut Tape) -> anyhow::Result<[u128; 3]> {
 }
 
 // Fills a tape on a memory of 65,536 bytes and reads it, and gives the memory back.
-pub fn time_round(rt: &impl Clock, mut memory: Vec<u8>) -> anyhow::Result<(Vec<u8>, Times)> {
+pub(crate) fn time_round(rt: &impl Clock, mut memory: Vec<u8>) -> anyhow::Result<(Vec<u8>, Times)> {
     blank(&mut memory, 1)?;
     let mut tape = Tape::open(memory);
     let appends = time_appends(rt, &mut tape)?;

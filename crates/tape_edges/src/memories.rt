@@ -5,7 +5,11 @@ use std::alloc::{AllocError, Global};
 use std::process::Abort;
 
 // So many bytes, each by chance.
-pub fn scattered(heap: Global, numbers: &mut Numbers, len: usize) -> Result<Vec<u8>, AllocError> {
+pub(crate) fn scattered(
+    heap: Global,
+    numbers: &mut Numbers,
+    len: usize,
+) -> Result<Vec<u8>, AllocError> {
     let mut memory = Vec::new(heap);
     for _ in 0..len {
         memory.push(numbers.below(256) as u8)?;
@@ -27,7 +31,7 @@ fn put_ends(rt: &impl Abort, numbers: &mut Numbers, memory: &mut [u8], count: u3
 }
 
 // A memory of 16 to 64 bytes by chance, with a header in order and ends that mostly are.
-pub fn laid_out(
+pub(crate) fn laid_out(
     rt: &(impl Abort + AllocGlobal),
     numbers: &mut Numbers,
 ) -> Result<Vec<u8>, AllocError> {
@@ -42,7 +46,7 @@ pub fn laid_out(
 }
 
 // Changes a byte of a memory that has one: where, and to what, is by chance.
-pub fn change_a_byte(rt: &impl Abort, numbers: &mut Numbers, memory: &mut [u8]) {
+pub(crate) fn change_a_byte(rt: &impl Abort, numbers: &mut Numbers, memory: &mut [u8]) {
     assert!(rt; !memory.is_empty() && memory.len() <= 64);
     let at = numbers.below(memory.len() as u32) as usize;
     memory[at] = numbers.below(256) as u8;

@@ -8,12 +8,12 @@ pub struct Numbers {
 
 impl Numbers {
     // The numbers that begin from a state.
-    pub fn new(state: u64) -> Numbers {
+    pub(crate) fn new(state: u64) -> Numbers {
         Numbers { state }
     }
 
     // The next number below a limit.
-    pub fn below(&mut self, limit: u32) -> u32
+    pub(crate) fn below(&mut self, limit: u32) -> u32
         requires { 0 < limit }
         ensures { result < limit }
     {

@@ -57,7 +57,7 @@ fn ordered(memory: &[u8]) -> Option<InOrder> {
 }
 
 // What is found of a memory, or why it is refused.
-pub fn found(memory: &[u8]) -> Result<InOrder, Refusal> {
+pub(crate) fn found(memory: &[u8]) -> Result<InOrder, Refusal> {
     if memory.len() < 16 || memory.len() > 65536 {
         return Err(Refusal::TapeLength);
     }
@@ -65,7 +65,7 @@ pub fn found(memory: &[u8]) -> Result<InOrder, Refusal> {
 }
 
 // The lines that the lister prints of a memory.
-pub fn lines(heap: Global, memory: &[u8]) -> Result<String, AllocError> {
+pub(crate) fn lines(heap: Global, memory: &[u8]) -> Result<String, AllocError> {
     match found(memory) {
         Ok(InOrder { name, count, space }) => {
             let mut lines = format!(in heap; "roll {name} entries {count} space {space}\n")?;
