@@ -3,7 +3,7 @@ use std::alloc::Global;
 use std::process::Abort;
 use std::test::Fail;
 use tape::{Tape, blank};
-use tinyjambu::Key;
+use tinyjambu::{Key, Refusal};
 
 // Bytes to take keys from.
 const KEYS: [u8; 40] = *b"0123456789abcdefghijklmnopqrstuvwxyz+-*/";
@@ -31,4 +31,22 @@ pub fn has_text<R: Roll>(rt: &impl Abort, roll: &mut R, entry: u32, text: &[u8])
     assert_eq!(rt; roll.read(entry, &mut out), Ok(len));
     assert!(rt; &out[0..len] == text);
     assert!(rt; out[len..].iter().all(|&byte| byte == 0xaa));
+}
+
+// Appends texts to a roll, which takes them all.
+pub fn append_all<R: Roll>(rt: &impl Abort, roll: &mut R, texts: &[&[u8]]) {
+    for text in texts {
+        assert!(rt; roll.append(text).is_ok());
+    }
+}
+
+// Checks that an entry is broken at a floor and has this length, and that a read of it leaves only zeros.
+pub fn is_broken<R: Roll>(rt: &impl Abort, roll: &mut R, entry: u32, floor: u32, len: usize) {
+    let mut out = [0xaau8; 4097];
+    assert_eq!(rt; roll.length(entry), Ok(len));
+    assert_eq!(rt;
+        roll.read(entry, &mut out),
+        Err(Refusal::Broken.at(floor, entry))
+    );
+    assert!(rt; out.iter().all(|&byte| byte == 0));
 }

@@ -1,6 +1,12 @@
 #![tactic(auto)]
 
 #[cfg(test)]
+mod altered;
+#[cfg(test)]
+mod broken;
+#[cfg(test)]
 mod common;
+#[cfg(test)]
+mod engines;
 #[cfg(test)]
 mod piles;
