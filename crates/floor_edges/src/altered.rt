@@ -43,10 +43,10 @@ fn breaks_at(
 ) -> Vec<u8> {
     let [lower, upper] = keys;
     assert!(rt; at < memory.len());
-    memory[at] = memory[at] ^ bits;
+    memory[at] ^= bits;
     let mut memory = breaks_the_middle(rt, memory, lower, upper);
     assert!(rt; at < memory.len());
-    memory[at] = memory[at] ^ bits;
+    memory[at] ^= bits;
     memory
 }
 

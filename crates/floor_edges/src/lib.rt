@@ -1,6 +1,8 @@
 #![tactic(auto)]
 
 #[cfg(test)]
+mod again;
+#[cfg(test)]
 mod altered;
 #[cfg(test)]
 mod broken;
@@ -10,3 +12,5 @@ mod common;
 mod engines;
 #[cfg(test)]
 mod piles;
+#[cfg(test)]
+mod short;
