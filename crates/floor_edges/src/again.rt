@@ -21,21 +21,13 @@ fn planned(rt: &impl Abort, number: usize, kind: Kind) -> Result<Plan, Fail> {
 }
 
 // Lays two floors on a tape.
-fn laid(
-    tape: Tape,
-    lower: Plan,
-    upper: Plan,
-) -> Floor<Floor<Tape, WordEngine>, WordEngine> {
+fn laid(tape: Tape, lower: Plan, upper: Plan) -> Floor<Floor<Tape, WordEngine>, WordEngine> {
     let below = Floor::lay(tape, WordEngine::new(lower.key), lower.kind);
     Floor::lay(below, WordEngine::new(upper.key), upper.kind)
 }
 
 // A tape with two texts sealed by two floors, which are lifted again.
-fn sealed(
-    rt: &(impl Abort + AllocGlobal),
-    lower: Plan,
-    upper: Plan,
-) -> Result<Tape, Fail> {
+fn sealed(rt: &(impl Abort + AllocGlobal), lower: Plan, upper: Plan) -> Result<Tape, Fail> {
     let mut pile = laid(empty_tape(rt.alloc(), 256)?, lower, upper);
     append_all(rt, &mut pile, &[b"one", b""]);
     let (below, _) = pile.lift();
@@ -61,10 +53,11 @@ fn reads_both(rt: &impl Abort, tape: Tape, lower: Plan, upper: Plan) {
 }
 
 #[test]
-fn floors_laid_again_with_the_same_keys_read_the_old_entries(
-    rt: HostRuntime,
-) -> Result<(), Fail> {
-    let (lower, upper) = (planned(&rt, 1, Kind::Scene)?, planned(&rt, 2, Kind::Preview)?);
+fn floors_laid_again_with_the_same_keys_read_the_old_entries(rt: HostRuntime) -> Result<(), Fail> {
+    let (lower, upper) = (
+        planned(&rt, 1, Kind::Scene)?,
+        planned(&rt, 2, Kind::Preview)?,
+    );
     let tape = sealed(&rt, lower, upper)?;
     reads_both(&rt, tape, lower, upper);
     Ok(())

@@ -34,13 +34,7 @@ fn breaks_the_middle(rt: &impl Abort, memory: Vec<u8>, lower: Key, upper: Key) -
 }
 
 // Checks that the middle entry is broken while a byte at a place is another.
-fn breaks_at(
-    rt: &impl Abort,
-    mut memory: Vec<u8>,
-    at: usize,
-    bits: u8,
-    keys: [Key; 2],
-) -> Vec<u8> {
+fn breaks_at(rt: &impl Abort, mut memory: Vec<u8>, at: usize, bits: u8, keys: [Key; 2]) -> Vec<u8> {
     let [lower, upper] = keys;
     assert!(rt; at < memory.len());
     memory[at] ^= bits;

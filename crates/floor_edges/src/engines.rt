@@ -29,12 +29,7 @@ fn sealed_by<E: Engine + Drop, F: Engine + Drop>(
 }
 
 // Checks that each text reads back from a memory at the top of two floors.
-fn opens<E: Engine + Drop, F: Engine + Drop>(
-    rt: &impl Abort,
-    memory: Vec<u8>,
-    lower: E,
-    upper: F,
-) {
+fn opens<E: Engine + Drop, F: Engine + Drop>(rt: &impl Abort, memory: Vec<u8>, lower: E, upper: F) {
     let tape = Tape::open(memory);
     let mut pile = Floor::lay(Floor::lay(tape, lower, Kind::Scene), upper, Kind::Lock);
     for (entry, text) in [(0u32, TEXTS[0]), (1, TEXTS[1]), (2, TEXTS[2])] {
@@ -43,10 +38,7 @@ fn opens<E: Engine + Drop, F: Engine + Drop>(
 }
 
 // Checks that every pairing of engines reads a memory.
-fn each_pairing_opens(
-    rt: &(impl Abort + AllocGlobal),
-    memory: &[u8],
-) -> Result<(), Fail> {
+fn each_pairing_opens(rt: &(impl Abort + AllocGlobal), memory: &[u8]) -> Result<(), Fail> {
     let (lower, upper) = keys(rt)?;
     let heap = rt.alloc();
     let (bits, words) = (BitEngine::new(lower), WordEngine::new(lower));

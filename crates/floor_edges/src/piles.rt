@@ -50,7 +50,11 @@ fn keeps<R: Roll + Drop>(rt: &impl Abort, mut pile: R, floor: u32, bound: u32) {
     stands_at(rt, &pile, floor, bound);
     assert!(rt; 0 < bound && bound <= 4097);
     let longest = bound as usize - 1;
-    takes(rt, &mut pile, [(0, 0), (1, 1), (2, longest), (3, 24), (4, 0)]);
+    takes(
+        rt,
+        &mut pile,
+        [(0, 0), (1, 1), (2, longest), (3, 24), (4, 0)],
+    );
     assert_eq!(rt;
         pile.append(&text_of(5)[0..longest + 1]),
         Err(Refusal::EntryTooLong.at(floor, 5))

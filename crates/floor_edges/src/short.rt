@@ -9,7 +9,16 @@ use tinyjambu::{Refusal, WordEngine};
 
 // Entries of 0 to 7 bytes by their numbers, then one of 8 and one of 11.
 const ENTRIES: [&[u8]; 10] = [
-    b"", b"1", b"12", b"123", b"1234", b"12345", b"123456", b"1234567", b"12345678", b"12345678901",
+    b"",
+    b"1",
+    b"12",
+    b"123",
+    b"1234",
+    b"12345",
+    b"123456",
+    b"1234567",
+    b"12345678",
+    b"12345678901",
 ];
 
 // A tape with these entries, which no floor sealed.
@@ -23,7 +32,10 @@ fn unsealed(rt: &(impl Abort + AllocGlobal)) -> Result<Tape, Fail> {
 fn are_broken<R: Roll>(rt: &impl Abort, roll: &mut R, longest: usize) {
     for entry in 0..9u32 {
         is_broken(rt, roll, entry, 1, 0);
-        assert_eq!(rt; roll.read(entry, &mut []), Err(Refusal::Broken.at(1, entry)));
+        assert_eq!(rt;
+            roll.read(entry, &mut []),
+            Err(Refusal::Broken.at(1, entry))
+        );
     }
     is_broken(rt, roll, 9, 1, longest);
 }
