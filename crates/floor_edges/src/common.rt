@@ -9,21 +9,21 @@ use tinyjambu::{Key, Refusal};
 const KEYS: [u8; 40] = *b"0123456789abcdefghijklmnopqrstuvwxyz+-*/";
 
 // A key by its number: 0, 3 and 6 have 16 bytes, 1, 4 and 7 have 24, and 2 and 5 have 32.
-pub fn key(rt: &impl Abort, number: usize) -> Result<Key, Fail> {
+pub(crate) fn key(rt: &impl Abort, number: usize) -> Result<Key, Fail> {
     assert!(rt; number < 8);
     let len = 16 + 8 * (number % 3);
     Ok(Key::try_from(&KEYS[number..number + len])?)
 }
 
 // An empty tape of so many bytes.
-pub fn empty_tape(heap: Global, len: usize) -> Result<Tape, Fail> {
+pub(crate) fn empty_tape(heap: Global, len: usize) -> Result<Tape, Fail> {
     let mut memory = vec![in heap; 0u8; len]?;
     blank(&mut memory, 7)?;
     Ok(Tape::open(memory))
 }
 
 // Checks that an entry has a text, and that a read of it leaves what is behind the text in the buffer.
-pub fn has_text<R: Roll>(rt: &impl Abort, roll: &mut R, entry: u32, text: &[u8]) {
+pub(crate) fn has_text<R: Roll>(rt: &impl Abort, roll: &mut R, entry: u32, text: &[u8]) {
     let len = text.len();
     assert!(rt; len <= 4096);
     let mut out = [0xaau8; 4097];
@@ -34,14 +34,20 @@ pub fn has_text<R: Roll>(rt: &impl Abort, roll: &mut R, entry: u32, text: &[u8])
 }
 
 // Appends texts to a roll, which takes them all.
-pub fn append_all<R: Roll>(rt: &impl Abort, roll: &mut R, texts: &[&[u8]]) {
+pub(crate) fn append_all<R: Roll>(rt: &impl Abort, roll: &mut R, texts: &[&[u8]]) {
     for text in texts {
         assert!(rt; roll.append(text).is_ok());
     }
 }
 
 // Checks that an entry is broken at a floor and has this length, and that a read of it leaves only zeros.
-pub fn is_broken<R: Roll>(rt: &impl Abort, roll: &mut R, entry: u32, floor: u32, len: usize) {
+pub(crate) fn is_broken<R: Roll>(
+    rt: &impl Abort,
+    roll: &mut R,
+    entry: u32,
+    floor: u32,
+    len: usize,
+) {
     let mut out = [0xaau8; 4097];
     assert_eq!(rt; roll.length(entry), Ok(len));
     assert_eq!(rt;

@@ -9,12 +9,12 @@ pub struct Counting<E> {
 
 impl<E: Engine> Counting<E> {
     // An engine that has made no run.
-    pub fn new(inner: E) -> Counting<E> {
+    pub(crate) fn new(inner: E) -> Counting<E> {
         Counting { inner, runs: 0 }
     }
 
     // How many runs it has made.
-    pub fn runs(&self) -> u32 {
+    pub(crate) fn runs(&self) -> u32 {
         self.runs
     }
 }
