@@ -15,15 +15,10 @@ pub(crate) fn tape_with(heap: Global, entries: u32) -> anyhow::Result<Tape> {
     Ok(tape)
 }
 
-// Lays one floor on a roll.
-pub(crate) fn one<R: Roll + Drop>(below: R, engine: WordEngine) -> Floor<R, WordEngine> {
-    Floor::lay(below, engine, Kind::Scene)
-}
-
-// Lays two.
+// Lays two floors under one key: the nonce says which floor it is.
 pub(crate) fn two<R: Roll + Drop>(
     below: R,
     engine: WordEngine,
 ) -> Floor<Floor<R, WordEngine>, WordEngine> {
-    one(one(below, engine), engine)
+    Floor::lay(Floor::lay(below, engine, Kind::Scene), engine, Kind::Scene)
 }
