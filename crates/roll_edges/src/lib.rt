@@ -1,15 +1,25 @@
 #![tactic(auto)]
 
 #[cfg(test)]
+mod again;
+#[cfg(test)]
 mod agreeing;
+#[cfg(test)]
+mod altered;
 #[cfg(test)]
 mod blanking;
 #[cfg(test)]
+mod broken;
+#[cfg(test)]
 mod common;
+#[cfg(test)]
+mod counting;
 #[cfg(test)]
 mod disorder;
 #[cfg(test)]
 mod documented;
+#[cfg(test)]
+mod engines;
 #[cfg(test)]
 mod full;
 #[cfg(test)]
@@ -21,4 +31,10 @@ mod memories;
 #[cfg(test)]
 mod numbers;
 #[cfg(test)]
+mod piles;
+#[cfg(test)]
 mod rules;
+#[cfg(test)]
+mod runs;
+#[cfg(test)]
+mod short;

@@ -5,6 +5,11 @@ use std::test::Fail;
 use tape::{Tape, blank};
 use tinyjambu::{Key, Refusal};
 
+// The longest text of an entry, and one that is a byte longer.
+pub const LONGEST: [u8; 4096] = [0x5a; 4096];
+
+pub const OVER: [u8; 4097] = [0x5a; 4097];
+
 // Bytes to take keys from.
 const KEYS: [u8; 40] = *b"0123456789abcdefghijklmnopqrstuvwxyz+-*/";
 
@@ -55,4 +60,10 @@ pub(crate) fn is_broken<R: Roll>(
         Err(Refusal::Broken.at(floor, entry))
     );
     assert!(rt; out.iter().all(|&byte| byte == 0));
+}
+
+// Writes a number into the four bytes from `at` on, the least byte first.
+pub(crate) fn put(rt: &impl Abort, memory: &mut [u8], at: usize, number: u32) {
+    assert!(rt; memory.len() >= 4 && at <= memory.len() - 4);
+    memory[at..at + 4].copy_from_slice(&number.to_le_bytes());
 }
