@@ -12,6 +12,7 @@ use crate::pocket_calls::work_pocket;
 use crate::sealed_bytes::all_zero;
 use crate::studio_key::read_key;
 use anyhow::{Context, bail, ensure};
+use hexadecimal::Hex;
 use roll::{Kind, Label, Nonce};
 use std::fs;
 use std::rt::Files;
@@ -58,7 +59,7 @@ fn check_in(rt: &(impl Files + Print + AllocGlobal), key: Key, scene: &[u8]) -> 
     let tag = sealed
         .last_chunk::<8>()
         .context("the sealed file has no tag")?;
-    let tag = hex::encode(heap, tag.as_slice())?;
+    let tag = Hex(tag.as_slice());
     println!(rt; "{SEALED_FILE}: its last 8 bytes are the tag {tag}")?;
     Ok(())
 }

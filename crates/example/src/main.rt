@@ -49,7 +49,7 @@ fn main(rt: HostRuntime) -> anyhow::Result<()> {
     let studio = Key::try_from(b"a studio's key..".as_slice())?;
     let distributor = Key::try_from(b"a distributor's key of 32 bytes.".as_slice())?;
     let text = b"revision 1 of the scene".as_slice();
-    let mut out = vec![in rt.alloc(); 0u8; text.len()]?;
+    let mut out = [0u8; 64];
     let (memory, answer) = keep(memory, studio, distributor, text, &mut out);
     let len = answer?;
     let total = memory.len();

@@ -142,9 +142,10 @@ impl<R: Roll, E: Engine> Roll for Floor<R, E> {
         let mut sealed = [0u8; LONGEST];
         let n = self.below.read(entry, &mut sealed)?;
         let text = &mut guard.out[0..len];
-        label
+        let opened = label
             .open(&mut self.engine, &sealed[..n], text)
-            .map_err(|_| Refusal::Broken.at(floor, entry))?;
+            .map_err(|_| Refusal::Broken.at(floor, entry));
+        opened?;
         guard.keep();
         Ok(len)
     }

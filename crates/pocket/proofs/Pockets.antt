@@ -1,6 +1,6 @@
 -- The entries of a pocket, by where they begin, and one more.
 use Rattle.std.proofs.Common.{◌≡◌, ℕ, zero, suc, ◌+◌, ◌-◌, ◌<◌, ◌≤◌, List, [], ◌∷◌, ◌++◌, length, get_or, take, drop, drop_of_length-le, Some, None, Ok, Err, sym, refl, ap, ◌∙◌, ap₂, arith}
-use Rattle.std.proofs.lemmas.List.{take_at, length-take-le}
+use Rattle.std.proofs.lemmas.List.{take-take, take_at, get_or-take, length-take-le}
 use Rattle.std.proofs.lemmas.List.Sums.{sum_by-cons, sum_by_push, sum_by_more_le}
 use Rattle.refusal.specs.declared.refusal.Refusal.TheVariants.{NoSpace}
 use Rattle.roll.specs.Memory.{part, written}
@@ -38,6 +38,28 @@ module _ (name : ℕ) (bytes ns : List ℕ) where
   -- it is as long as its length says
   pub stored-length : (i : ℕ) → i < length ns → paged_all ns ≤ length bytes → length (part (paged_all (take i ns)) (get_or ns i 0) bytes) ≡ get_or ns i 0
   stored-length i l fits = part_length (paged_all (take i ns)) (get_or ns i 0) bytes (stored_within i l fits)
+
+-- the same of a pocket of which the first c lengths of a list count
+module _ (name : ℕ) (bytes ls : List ℕ) (c i : ℕ) (h : c ≤ length ls) (l : i < c) where
+  -- the lengths before it, and its own, are those of the list
+  before : take i (take c ls) ≡ take i ls
+  before = take-take i c ls (omega arith)
+
+  own : get_or (take c ls) i 0 ≡ get_or ls i 0
+  own = get_or-take c ls i 0 l
+
+  -- there is an entry of each number below c
+  pub pocket_entry_first : entry (pocket name bytes (take c ls)) i ≡ Some (text (part (paged_all (take i ls)) (get_or ls i 0) bytes))
+  pocket_entry_first =
+      pocket_entry name bytes (take c ls) i (omega (arith, length-take-le c ls h))
+      ∙ ap₂ (λ x ns. Some (text (part (paged_all ns) x bytes))) own before
+
+  -- it is as long as its length says
+  pub stored-length_first : paged_all (take c ls) ≤ length bytes → length (part (paged_all (take i ls)) (get_or ls i 0) bytes) ≡ get_or ls i 0
+  stored-length_first fits =
+      sym (ap₂ (λ x ns. length (part (paged_all ns) x bytes)) own before)
+      ∙ stored-length name bytes (take c ls) i (omega (arith, length-take-le c ls h)) fits
+      ∙ own
 
 -- the entries below u are the same
 entries-same : (bytes next : List ℕ) (u at : ℕ) (ns : List ℕ) → take u next ≡ take u bytes → at + paged_all ns ≤ u → entries_at next at ns ≡ entries_at bytes at ns

@@ -1,5 +1,5 @@
 -- A pocket keeps the laws of a roll. (Proofs, which the pocket gives as ghost members.)
-use Rattle.std.specs.Prelude.{◌≡◌, ℕ, suc, ◌+◌, ◌*◌, ◌<◌, ◌≤◌, List, [], ◌∷◌, length, drop, refl}
+use Rattle.std.specs.Prelude.{◌≡◌, ℕ, suc, ◌+◌, ◌*◌, ◌<◌, ◌≤◌, List, [], ◌∷◌, length, take, drop, refl}
 use Rattle.std.proofs.Common.{ap, arith, length-take, length-drop}
 use Rattle.std.proofs.lemmas.Bool.{lt-ltb, le-ltb, cond-true, cond-false}
 use Rattle.std.proofs.lemmas.List.Sums.{sum_by-cons}
@@ -46,3 +46,7 @@ pocket_lawful name bytes ns e few = record {
 -- an append puts what the bytes and the space say
 pub pocket_puts : (name : ℕ) (bytes ns t : List ℕ) → paged_all ns ≤ 4096 → pocket_put bytes ns t ≡ pocket_writes (pocket name bytes ns) bytes t
 pocket_puts name bytes ns t h = ap (λ at. written at t bytes) (omega arith)
+
+-- the first lengths of a list, of which there are few
+pub few_taken : (c : ℕ) (ns : List ℕ) → c ≤ 64 → length (take c ns) ≤ 64
+few_taken c ns h = omega (arith, length-take c ns)

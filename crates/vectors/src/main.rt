@@ -14,11 +14,18 @@ use std::fs;
 use std::rt::Files;
 use tinyjambu::KeySize;
 
+// The file of the cases of a size of keys. (Its name is not made by `format!`: a file is opened without heap.)
+fn file(size: KeySize) -> &'static str {
+    match size {
+        KeySize::Bits128 => "LWC_AEAD_KAT_128_96.txt",
+        KeySize::Bits192 => "LWC_AEAD_KAT_192_96.txt",
+        KeySize::Bits256 => "LWC_AEAD_KAT_256_96.txt",
+    }
+}
+
 // Runs the cases of the file of a size of keys, names each that does not agree, and prints how many do.
 fn run_file(rt: &(impl Files + Print + AllocGlobal), size: KeySize) -> anyhow::Result<Tally> {
-    let bits = 8 * size.bytes();
-    let file = format!(in rt.alloc(); "LWC_AEAD_KAT_{bits}_96.txt")?;
-    let text = fs::read_to_string(rt, file.as_str())?;
+    let text = fs::read_to_string(rt, file(size))?;
     let mut tally = Tally::new();
     for block in text.split("\n\n").filter(|block| !block.trim().is_empty()) {
         let verdict = judge_block(rt.alloc(), size, block);
@@ -32,6 +39,7 @@ fn run_file(rt: &(impl Files + Print + AllocGlobal), size: KeySize) -> anyhow::R
             },
         }
     }
+    let bits = 8 * size.bytes();
     println!(rt; "TinyJAMBU-{bits}: {tally}")?;
     Ok(tally)
 }

@@ -1,4 +1,4 @@
-use Rattle.std.proofs.Common.{◌≡◌, ◌-◌, true, false, ◌++◌, length, drop, replicate, is_ok, Err, sym, ap, ◌∙◌, rules}
+use Rattle.std.proofs.Common.{◌≡◌, ◌-◌, true, false, ◌++◌, drop, is_ok, Err, sym, ap, ◌∙◌, rules}
 use Rattle.std.proofs.lemmas.Result.{err_from_is_err_and}
 use Rattle.refusal.specs.declared.refusal.Refusal.TheVariants.{Broken}
 use Rattle.refusal.specs.Refusals.{fault}
@@ -21,20 +21,19 @@ returns-in_err-n g c =
     }
 
 -- what the floor cannot open is broken there
-pub returns-in_err-map_err : goal.returns-in_err-map_err
-returns-in_err-map_err g c =
+pub returns-in_err-opened : goal.returns-in_err-opened
+returns-in_err-opened g c =
     let s = c.args.self.now in
     let shut : is_ok c.open.result ≡ false = search rules in
     let done =
     read_shut (own_layer g.E.Engine.key s) (g.R.Roll.meaning s.below) c.args.entry _ _ _ _ _ c.read.new.out c.args.out.now _ _ (g.R.Roll.lawful_top s.below)
     c.length.ensures c.in_ok-len.was c.if-guard-len.false c.read.ensures.out c.read.ensures.answer c.in_ok-n.was
     c.floor-floor.ensures c.label-label.ensures.nonce c.label-label.ensures.data _ c.open.ensures.answer shut in
-    let passed = err_from_is_err_and c.from_residual-in_err-map_err.result c.from_residual-in_err-map_err.ensures.1 in
-    let what : c.in_err-map_err.field-0.0 ≡ fault Broken c.floor-floor.result c.args.entry = search rules in
-    let wiped : c.drop-guard-in_err-map_err.new.self.0 ≡ replicate (length c.args.out.now) 0 = search rules in
+    let passed = err_from_is_err_and c.from_residual-in_err-opened.result c.from_residual-in_err-opened.ensures.1 in
+    let what : c.in_err-opened.field-0.0 ≡ fault Broken c.floor-floor.result c.args.entry = search rules in
     record {
       answer = passed.1 ∙ ap Err (passed.2 ∙ what) ∙ sym done.0;
-      out = wiped ∙ sym done.1;
+      out = (search rules) ∙ sym done.1;
       same = search rules;
     }
 
